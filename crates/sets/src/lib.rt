@@ -1,0 +1,4 @@
+// Sets of facts, literals and steps, and a stack over a handed table: no code above sees a bit.
+pub mod facts;
+pub mod steps;
+pub mod stack;
