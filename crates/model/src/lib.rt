@@ -4,3 +4,5 @@ pub mod cell;
 pub mod path;
 pub mod source;
 pub mod ranking;
+pub mod table;
+pub mod holds;

@@ -1,0 +1,12 @@
+pub mod Problems
+pub mod Plans
+pub mod Singly
+pub mod Clauses
+pub mod Marks
+pub mod Rankings
+pub mod Paths
+pub mod Choices
+pub mod Firsts
+pub mod Tables
+pub mod Held
+pub mod Theorems
