@@ -1,5 +1,5 @@
 -- Choices, and walks of several. Assumes nothing.
-use Prim.Native.Nat.{ℕ, suc, _*_, _<_}
+use Prim.Native.Nat.{ℕ, suc, _<_}
 use mathlib.Core.Path.{_≡_}
 use mathlib.Core.List.{List, [], _∷_, _++_}
 use Rattle.model.specs.declared.cell.Cell.{Cell}
@@ -12,7 +12,7 @@ abbrev pub Absent : Cell → List Entry → Type 0
 Absent c [] = Unit {0}
 Absent c (e ∷ path) = (e .cell ≡ c → ⊥) × Absent c path
 
--- the rules of a path at length T with m steps: its cells differ, have times below the length, and none is pinned
+-- the rules of a path at length T with m steps: its cells are in range and differ, and none is pinned
 abbrev pub Fair : ℕ → ℕ → Pins → List Entry → Type 0
 Fair T m pins [] = Unit {0}
 Fair T m pins (e ∷ path) =
@@ -23,7 +23,7 @@ Fair T m pins (e ∷ path) =
 pub data Choice : List Entry → List Entry → Type 0 where
   adds : (path : List Entry) (c : Cell) → Choice path (path ++ (left c ∷ []))
   turns : (before : List Entry) (c : Cell) (behind : List Entry)
-    → Choice (before ++ (left c ∷ behind)) (before ++ (taken c ∷ []))
+      → Choice (before ++ (left c ∷ behind)) (before ++ (taken c ∷ []))
 
 -- so many choices, one after another, over fair paths
 pub data Walk (T m : ℕ) (pins : Pins) : ℕ → List Entry → List Entry → Type 0 where

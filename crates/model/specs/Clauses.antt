@@ -6,7 +6,7 @@ use mathlib.Core.Path.{_≡_}
 use Rattle.sets.specs.Literals.{Literal, opposite, fact}
 use Rattle.model.specs.Problems.{Problem, Open, Needs, Makes, start-state, State, Holds}
 
--- a set of clauses, by its pairs
+-- a set of clauses: whether each pair is one
 abbrev pub Clauses : Type 0
 Clauses = Literal → Literal → Bool
 

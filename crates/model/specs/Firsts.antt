@@ -3,19 +3,24 @@ use Prim.Native.Nat.{ℕ, _*_, _<_}
 use mathlib.Core.Path.{_≡_}
 use mathlib.Core.Logic.{_⊎_}
 use mathlib.Core.List.{List, _∷_, _++_}
-use mathlib.Core.Bool.{Bool, true, false}
+use mathlib.Core.Bool.{true, false}
 use Rattle.model.specs.declared.cell.Cell.{Cell}
 use Rattle.model.specs.declared.path.Entry.{Entry}
-use Rattle.model.specs.Problems.{Problem, steps}
+use Rattle.model.specs.Problems.{Problem}
 use Rattle.model.specs.Plans.{Cells, Pins, IsPlan, Keeps}
 use Rattle.model.specs.Paths.{at, Agrees, LeftOf}
+use Rattle.model.specs.Rankings.{Order}
 
 -- an order of the cells at one length and step count: the cell at each place, and the place of each cell
 pub record Places : Type 0 where
   pub cell : ℕ → Cell
   pub place : Cell → ℕ
 
--- place and cell undo each other
+-- the places of an order at one length and step count
+abbrev pub places : Order → ℕ → ℕ → Places
+places o T m = record { cell = o .cell T m; place = o .place T m }
+
+-- place and cell undo each other: every cell has one place below T * m, and each such place one cell
 pub record Ordered (T m : ℕ) (o : Places) : Type 0 where
   pub place-below : (c : Cell) → c .time < T → c .step < m → o .place c < T * m
   pub cell-below : (k : ℕ) → k < T * m → (o .cell k .time < T) × (o .cell k .step < m)
@@ -27,7 +32,7 @@ pub record Such (p : Problem) (T : ℕ) (pins : Pins) (c : Cells) : Type 0 where
   pub plan : IsPlan p T c
   pub keeps : Keeps pins c
 
--- at the lowest place where the two differ, the first leaves the cell out
+-- the first of two plans comes before the second: at the lowest place where they differ, it leaves the cell out
 abbrev pub Before : ℕ → (ℕ → Cell) → Cells → Cells → Type 0
 Before C cell p q =
     (k : ℕ) × (k < C) × (at p (cell k) ≡ false) × (at q (cell k) ≡ true)
@@ -37,11 +42,11 @@ Before C cell p q =
 abbrev pub Same : ℕ → ℕ → Cells → Cells → Type 0
 Same T m p q = (t o : ℕ) → t < T → o < m → q t o ≡ p t o
 
--- a such-plan that comes before every other one
+-- the first of the plans that are such: one of them, that comes before every other one
 abbrev pub First : (Cells → Type 0) → ℕ → ℕ → (ℕ → Cell) → Cells → Type 0
 First S T m cell p = S p × ((q : Cells) → S q → Same T m p q ⊎ Before (T * m) cell p q)
 
--- there is no such plan
+-- no plan is such
 abbrev pub None : (Cells → Type 0) → Type 0
 None S = (p : Cells) → S p → ⊥
 

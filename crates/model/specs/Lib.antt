@@ -1,4 +1,6 @@
 pub mod Problems
+pub mod Tables
+pub mod Held
 pub mod Plans
 pub mod Singly
 pub mod Clauses
@@ -7,6 +9,7 @@ pub mod Rankings
 pub mod Paths
 pub mod Choices
 pub mod Firsts
-pub mod Tables
-pub mod Held
+pub mod Kept
+pub mod Answers
 pub mod Theorems
+pub mod PathTheorems

@@ -1,18 +1,17 @@
 -- Planning problems, their limits, and steps that interfere. Assumes nothing.
 use Prim.Native.Nat.{ℕ, _≤_, _<_}
 use mathlib.Core.Bool.{Bool, true, false, not}
-use mathlib.Core.List.{List}
+use mathlib.Core.List.{List, []}
 use mathlib.Core.Logic.{_⊎_, _≢_}
 use mathlib.Core.Path.{_≡_}
 use lib.ListN.{length, getD}
 use Rattle.sets.specs.Literals.{Literal, pos, neg, opposite, fact}
-use Rattle.sets.specs.Sets.{fact-in, lit-in, no-literals}
+use Rattle.sets.specs.Sets.{fact-in, lit-in, no-facts, no-literals}
 use Rattle.sets.specs.declared.facts.FactSet.{FactSet}
 use Rattle.sets.specs.declared.facts.LiteralSet.{LiteralSet}
 use Rattle.model.specs.declared.step.Step.{Step}
 
 infix 40 _∈_
-
 -- the literal is in the set
 abbrev pub _∈_ : Literal → LiteralSet → Type 0
 l ∈ s = lit-in s l ≡ true
@@ -25,40 +24,52 @@ Consistent s = (l : Literal) → l ∈ s → opposite l ∈ s → ⊥
 abbrev pub State : Type 0
 State = ℕ → Bool
 
+-- the truth of a literal in a state
 abbrev pub value : State → Literal → Bool
 value s (pos f) = s f
 value s (neg f) = not (s f)
 
+-- the literal is true in the state
 abbrev pub Holds : State → Literal → Type 0
 Holds s l = value s l ≡ true
 
--- facts and steps count from 0; the start holds the facts that are true there
+-- a problem: how many facts there are, its steps, the facts that are true at the start (all others are false there), and the literals
+-- wanted at the end; facts and steps count from 0
 pub record Problem : Type 0 where
   pub facts : ℕ
   pub rows : List Step
   pub start : FactSet
   pub goal : LiteralSet
 
--- what stands for a step beyond the count
+-- what stands for a step beyond the count: closed, with no needs and no makes
 abbrev pub closed-step : Step
 closed-step = record { enabled = false; needs = no-literals; makes = no-literals }
+
+-- the empty problem: one fact, false at the start, no steps and no goal
+abbrev pub empty-problem : Problem
+empty-problem = record { facts = 1; rows = []; start = no-facts; goal = no-literals }
 
 -- how many steps there are
 abbrev pub steps : Problem → ℕ
 steps p = length (p .rows)
 
+-- the step of a number
 abbrev pub step : Problem → ℕ → Step
 step p o = getD (p .rows) o closed-step
 
+-- the step may be used
 abbrev pub Open : Problem → ℕ → Type 0
 Open p o = step p o .enabled ≡ true
 
+-- the step asks that the literal hold in the state in which it is taken
 abbrev pub Needs : Problem → ℕ → Literal → Type 0
 Needs p o l = l ∈ step p o .needs
 
+-- the step makes the literal hold in the next state
 abbrev pub Makes : Problem → ℕ → Literal → Type 0
 Makes p o l = l ∈ step p o .makes
 
+-- state 0: the facts of the start are true, the others false
 abbrev pub start-state : Problem → State
 start-state p = λ f. fact-in (p .start) f
 

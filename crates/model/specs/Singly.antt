@@ -1,6 +1,5 @@
 -- The steps of one time taken singly, in some order. Assumes nothing.
-use Prim.Native.Nat.{ℕ, suc}
-use mathlib.Core.Bool.{Bool}
+use Prim.Native.Nat.{ℕ}
 use mathlib.Core.List.{List, [], _∷_}
 use mathlib.Core.Logic.{_⊎_, _↔_}
 use mathlib.Core.Path.{_≡_}
@@ -9,15 +8,17 @@ use Rattle.sets.specs.Sets.{lit-in}
 use Rattle.model.specs.Problems.{Problem, step, Needs, State, Holds}
 use Rattle.model.specs.Plans.{Cells, Taken, put}
 
+-- the step is in the list
 abbrev pub Among : ℕ → List ℕ → Type 0
 Among o [] = ⊥
 Among o (x ∷ xs) = (o ≡ x) ⊎ Among o xs
 
+-- no step is in the list twice
 abbrev pub NoRepeats : List ℕ → Type 0
 NoRepeats [] = Unit {0}
 NoRepeats (x ∷ xs) = (Among x xs → ⊥) × NoRepeats xs
 
--- an order of the steps taken at time t
+-- an order of the steps taken at time t: each of them, and no other, once
 pub record OrderOf (c : Cells) (t : ℕ) (order : List ℕ) : Type 0 where
   pub each : (o : ℕ) → Among o order ↔ Taken c t o
   pub once : NoRepeats order
@@ -26,6 +27,7 @@ pub record OrderOf (c : Cells) (t : ℕ) (order : List ℕ) : Type 0 where
 abbrev pub after : Problem → State → ℕ → State
 after p s o = put s (lit-in (step p o .makes))
 
+-- the state after all steps of the list, one after another
 abbrev pub after-all : Problem → State → List ℕ → State
 after-all p s [] = s
 after-all p s (o ∷ os) = after-all p (after p s o) os

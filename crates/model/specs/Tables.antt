@@ -1,4 +1,4 @@
--- The problem that a table holds. Assumes nothing.
+-- What a problem table promises of its sets: facts in range, and no literal beside its opposite. Assumes nothing.
 use Prim.Native.Nat.{ℕ, _<_}
 use mathlib.Core.Bool.{true}
 use mathlib.Core.List.{List}
@@ -23,13 +23,14 @@ LiteralsBelow n s = (l : Literal) → lit-in s l ≡ true → fact l < n
 abbrev pub NoOpposites : LiteralSet → Type 0
 NoOpposites s = (l : Literal) → lit-in s l ≡ true → lit-in s (opposite l) ≡ true → ⊥
 
--- the same of the needs, and of the makes, of each of the first steps of a table
+-- the needs, and the makes, of each of the first steps of a table are of facts below a count
 abbrev pub NeedsBelow : ℕ → ℕ → List Step → Type 0
 NeedsBelow n count rows = (o : ℕ) → LiteralsBelow n (getD (take count rows) o closed-step .needs)
 
 abbrev pub MakesBelow : ℕ → ℕ → List Step → Type 0
 MakesBelow n count rows = (o : ℕ) → LiteralsBelow n (getD (take count rows) o closed-step .makes)
 
+-- no need, and no make, of one of the first steps stands beside its opposite
 abbrev pub NeedsAgree : ℕ → List Step → Type 0
 NeedsAgree count rows = (o : ℕ) → NoOpposites (getD (take count rows) o closed-step .needs)
 

@@ -2,13 +2,13 @@
 ghost use Prim.Native.Nat.{ℕ, _≤_};
 ghost use mathlib.Core.Path.{_≡_};
 ghost use lib.ListN.{take, length};
-ghost use Rattle.model.specs.Problems.{steps, step as row};
+ghost use Rattle.model.specs.Problems.{steps, step as row, empty-problem};
 ghost use Rattle.model.specs.Held.{problem-of};
-use sets::facts::FactSet;
-use sets::facts::LiteralSet;
 use crate::source::ProblemSource;
 use crate::step::Step;
 use crate::table::ProblemTable;
+use sets::facts::FactSet;
+use sets::facts::LiteralSet;
 
 // Copies the steps of a source to the front of the table.
 fn copy_steps<S: ProblemSource>(source: &S, table: &mut [Step; 256])
@@ -26,7 +26,26 @@ impl ProblemTable {
     {
         let mut steps = [Step::closed(); 256];
         copy_steps(source, &mut steps);
-        ProblemTable { facts: source.facts(), count: source.steps(), steps, start: source.start(), goal: source.goal() }
+        ProblemTable {
+            facts: source.facts(),
+            count: source.steps(),
+            steps,
+            start: source.start(),
+            goal: source.goal(),
+        }
+    }
+
+    // The empty problem.
+    pub fn empty() -> ProblemTable
+        ensures { λ r. ⌜ problem-of r ≡ empty-problem ⌝ }
+    {
+        ProblemTable {
+            facts: 1,
+            count: 0,
+            steps: [Step::closed(); 256],
+            start: FactSet::empty(),
+            goal: LiteralSet::empty(),
+        }
     }
 }
 
@@ -42,7 +61,11 @@ pub impl ProblemSource for ProblemTable as TableSource {
     }
 
     fn step(&self, number: usize) -> Step {
-        if number < self.count { self.steps[number] } else { Step::closed() }
+        if number < self.count {
+            self.steps[number]
+        } else {
+            Step::closed()
+        }
     }
 
     fn start(&self) -> FactSet {

@@ -1,8 +1,10 @@
 // The words of planning: problems and what they mean, plans, rankings, marks, clauses and paths, and the theorems about them.
-pub mod step;
 pub mod cell;
-pub mod path;
-pub mod source;
-pub mod ranking;
-pub mod table;
 pub mod holds;
+pub mod path;
+pub mod answers;
+pub mod ranking;
+pub mod source;
+pub mod step;
+pub mod table;
+pub mod theorems;

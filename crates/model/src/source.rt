@@ -1,9 +1,9 @@
 // What a problem source is: it means one problem, and answers its parts.
 ghost use mathlib.Core.Path.{_≡_};
 ghost use Rattle.model.specs.Problems.{Problem, WellFormed, steps, step as row};
+use crate::step::Step;
 use sets::facts::FactSet;
 use sets::facts::LiteralSet;
-use crate::step::Step;
 
 // Asking changes nothing; each answer is that part of the meaning, each time.
 pub trait ProblemSource {

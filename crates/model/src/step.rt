@@ -16,6 +16,10 @@ impl Step {
     pub fn closed() -> Step
         ensures { λ r. ⌜ r ≡ closed-step ⌝ }
     {
-        Step { enabled: false, needs: LiteralSet::empty(), makes: LiteralSet::empty() }
+        Step {
+            enabled: false,
+            needs: LiteralSet::empty(),
+            makes: LiteralSet::empty(),
+        }
     }
 }

@@ -3,9 +3,9 @@ ghost use Prim.Native.Nat.{_≤_};
 ghost use mathlib.Core.Path.{_≡_};
 ghost use lib.ListN.{length};
 ghost use Rattle.model.specs.Tables.{FactsBelow, LiteralsBelow, NoOpposites, NeedsBelow, MakesBelow, NeedsAgree, MakesAgree};
+use crate::step::Step;
 use sets::facts::FactSet;
 use sets::facts::LiteralSet;
-use crate::step::Step;
 
 #[derive(Drop)]
 pub struct ProblemTable {

@@ -1,8 +1,9 @@
 -- What stands in a set. Assumes nothing.
-use Prim.Native.Nat.{ℕ, _+_, _/_, _%_}
+use Prim.Native.Nat.{ℕ, _+_, _/_, _%_, _^_}
 use mathlib.Core.Bool.{Bool, true}
 use mathlib.Core.List.{[]}
 use mathlib.Core.Path.{_≡_}
+use lib.Bits.{bitOr}
 use lib.ListN.{getD}
 use Rattle.sets.specs.Has.{has}
 use Rattle.sets.specs.Literals.{Literal, pos, neg}
@@ -14,7 +15,11 @@ use Rattle.sets.specs.declared.steps.StepSet.{StepSet}
 unfoldable pub fact-in : FactSet → ℕ → Bool
 fact-in s i = has (s .bits) i
 
--- a number that falls where a member goes
+-- the set with one fact more
+unfoldable pub with-fact : FactSet → ℕ → FactSet
+with-fact s f = record { bits = bitOr (s .bits) (2 ^ f) }
+
+-- a number that falls where a member goes, and rises where one comes
 unfoldable pub bulk : FactSet → ℕ
 bulk s = s .bits
 
@@ -23,6 +28,12 @@ unfoldable pub lit-in : LiteralSet → Literal → Bool
 lit-in s (pos f) = fact-in (s .truths) f
 lit-in s (neg f) = fact-in (s .falsities) f
 
+-- the set with one literal more
+unfoldable pub with-literal : LiteralSet → Literal → LiteralSet
+with-literal s (pos f) = record { truths = with-fact (s .truths) f; falsities = s .falsities }
+with-literal s (neg f) = record { truths = s .truths; falsities = with-fact (s .falsities) f }
+
+-- as `bulk`
 unfoldable pub weight : LiteralSet → ℕ
 weight s = bulk (s .truths) + bulk (s .falsities)
 

@@ -1,0 +1,4 @@
+pub mod Pairs
+pub mod Striking
+pub mod Waiting
+pub mod Asking

@@ -1,0 +1,12 @@
+pub mod Trail
+pub mod Growth
+pub mod Empties
+pub mod Changes
+pub mod Pinning
+pub mod Conclude
+pub mod Closure
+pub mod Spread
+pub mod Seeds
+pub mod Undone
+pub mod Meaning
+pub mod Made

@@ -1,0 +1,9 @@
+pub mod Tables
+pub mod Grows
+pub mod Pinning
+pub mod Rules
+pub mod Meaning
+pub mod Deciding
+pub mod Theorems
+pub mod Building
+pub mod Cells

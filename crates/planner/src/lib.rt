@@ -1,0 +1,4 @@
+// The planner: from a problem and a length to the first plan in a ranking, by the calls that its users make.
+pub mod tables;
+mod search;
+pub mod calls;

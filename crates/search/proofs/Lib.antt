@@ -1,0 +1,10 @@
+pub mod PinnedPath
+pub mod Seeing
+pub mod Ordered
+pub mod Choosing
+pub mod Stepping
+pub mod Sounding
+pub mod Shown
+pub mod Searches
+pub mod Popping
+pub mod Turning

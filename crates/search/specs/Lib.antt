@@ -1,0 +1,5 @@
+pub mod Pinned
+pub mod Levels
+pub mod Ordering
+pub mod Sound
+pub mod Looks

@@ -1,0 +1,6 @@
+// The search of one problem for the first plan in an order: its tables, its path, and one choice after another.
+pub mod level;
+pub mod tables;
+pub mod look;
+pub mod choose;
+pub mod run;

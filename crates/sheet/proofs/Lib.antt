@@ -1,0 +1,7 @@
+pub mod Bytes
+pub mod Heads
+pub mod Joining
+pub mod Stating
+pub mod Empty
+pub mod Lawful
+pub mod Reading

@@ -1,0 +1,13 @@
+pub mod Class
+pub mod Kind
+pub mod Print
+pub mod Statement
+pub mod Fault
+pub mod Cut
+pub mod Entry
+pub mod Name
+pub mod Job
+pub mod Records
+pub mod Stated
+pub mod Joins
+pub mod WriteFault

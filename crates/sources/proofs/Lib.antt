@@ -1,0 +1,6 @@
+pub mod Bijections
+pub mod Copies
+pub mod Tables
+pub mod Reaches
+pub mod Tested
+pub mod Waters

@@ -1,0 +1,7 @@
+// Rankings and problem sources, each lawful: two orders of the cells, the water line, and the filter by what can be reached.
+pub mod by_step;
+pub mod filter;
+pub mod forward;
+pub mod order;
+mod reach;
+pub mod water;
