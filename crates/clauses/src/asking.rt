@@ -1,7 +1,8 @@
 // Asking the clause record.
 ghost use mathlib.Core.Path.{_≡_};
-ghost use Rattle.sets.specs.Sets.{lit-in};
-ghost use Rattle.sets.specs.Literals.{Literal, lit};
+ghost use lib.ListN.{getD};
+ghost use Rattle.sets.specs.Sets.{lit-in, no-literals};
+ghost use Rattle.sets.specs.Literals.{Literal, lit, code};
 ghost use Rattle.clauses.specs.Waiting.{kept-in};
 ghost use Rattle.clauses.specs.Asking.{kept-answer};
 use crate::record::ClauseRecord;
@@ -27,5 +28,12 @@ impl ClauseRecord {
         ensures { λ r. ⌜ ((l : Literal) → lit-in r l ≡ kept-in (now (self .entry)) (lit a) l) ⌝ }
     {
         self.pairs.row(a)
+    }
+
+    // By a literal's number, the literals that it is kept in a pair with.
+    pub fn rows(&self) -> [LiteralSet; 128]
+        ensures { λ r. ⌜ ((a b : Literal) → lit-in (getD r (code a) no-literals) b ≡ kept-in (now (self .entry)) a b) ⌝ }
+    {
+        self.pairs.table()
     }
 }

@@ -3,7 +3,8 @@ ghost use Prim.Native.Nat.{_<_, _≤_};
 ghost use mathlib.Core.Bool.{true, false, not, cond, _&&_, _||_};
 ghost use mathlib.Core.Path.{_≡_};
 ghost use lib.Dec.{eqb, ltb};
-ghost use Rattle.sets.specs.Sets.{lit-in};
+ghost use lib.ListN.{getD};
+ghost use Rattle.sets.specs.Sets.{lit-in, no-literals};
 ghost use Rattle.sets.specs.Literals.{Literal, fact, lit, code};
 ghost use Rattle.model.specs.Held.{problem-of};
 ghost use Rattle.model.specs.Problems.{start-state, value};
@@ -18,6 +19,13 @@ use sets::facts::FactSet;
 use sets::facts::LiteralSet;
 
 impl Pairs {
+    // The rows.
+    pub(crate) fn table(&self) -> [LiteralSet; 128]
+        ensures { λ r. ⌜ ((a b : Literal) → lit-in (getD r (code a) no-literals) b ≡ rel (now (self .entry)) a b) ⌝ }
+    {
+        self.rows
+    }
+
     // No pairs.
     pub(crate) fn empty() -> Pairs
         ensures { λ r. ⌜ ((a b : Literal) → rel r a b ≡ false) ⌝ }

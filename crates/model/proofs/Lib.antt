@@ -16,3 +16,4 @@ pub mod FirstPlan
 pub mod Keeping
 pub mod KeptOnce
 pub mod SeenOnce
+pub mod Copies

@@ -8,3 +8,4 @@ pub mod source;
 pub mod step;
 pub mod table;
 pub mod theorems;
+pub mod order;

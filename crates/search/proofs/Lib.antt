@@ -8,3 +8,4 @@ pub mod Shown
 pub mod Searches
 pub mod Popping
 pub mod Turning
+pub mod Beginnings

@@ -7,7 +7,7 @@ use mathlib.Core.List.{List, [], _∷_, _++_, map}
 use mathlib.Core.Logic.{⊎-elim}
 use mathlib.Core.Path.{_≡_, refl, sym, ap, subst, _∙_}
 use lib.ListN.{length, getD, take, set, length-append, length-set}
-use Rattle.std.proofs.shelf.Lists.{length-take, length-take-le, length-map, take-more-set}
+use Rattle.std.proofs.shelf.Lists.{length-take, length-take-le, length-map, take-more-set, getD-map, getD-take}
 use Rattle.std.proofs.shelf.Tests.{cases-lt}
 use Rattle.std.specs.declared.option.Option.the-variants.{Some, None}
 use Rattle.model.specs.declared.cell.Cell.{Cell}
@@ -30,7 +30,7 @@ use Rattle.search.specs.declared.level.Level.{Level}
 use Rattle.search.specs.declared.tables.Search.{Search}
 use Rattle.search.specs.Levels.{cell-at, no-level, entry-of, path-at, told, Lower, taken-by}
 use Rattle.search.specs.Sound.{Sound}
-use Rattle.search.specs.Looks.{asked, cells, Wanted, path-of, KeptFor, Opens, Choosable, Fits}
+use Rattle.search.specs.Looks.{asked, cells, Wanted, path-of, KeptFor, Opens, Choosable, Fits, no-entry}
 use Rattle.search.proofs.Sounding.{last-fair}
 use Rattle.search.proofs.Stepping.{path-more, path-suc}
 use Rattle.search.proofs.Shown.{shown-kept, shown-contradiction, shown-next, shown-whole, shown-first, shown-long, shown-placed, shown-trail, shown-lower, shown-undo, shown-choose}
@@ -135,3 +135,16 @@ module _ (s : Search) where
           → ∥ Sound (problem-of (s .problem)) (kept-in (s .clauses)) (s .index) (s .length) (s .order) (pins-of (s .pins)) (s .root) m′ ls′ (s .depth - 1) ∥₁
       undone ls′ e = subst (λ (ls : List Level). ∥ Sound (problem-of (s .problem)) (kept-in (s .clauses)) (s .index) (s .length) (s .order) (pins-of (s .pins)) (s .root) m′ ls (s .depth - 1) ∥₁) (sym e)
         (shown-undo (problem-of (s .problem)) (kept-in (s .clauses)) (s .index) (s .length) (s .order) (pins-of (s .pins)) (s .root) (s .marks) (s .levels) (s .depth) (s .sound) some deep m′ back)
+
+  -- the entries of the path, as the levels spell them
+  pub path-size : length (path-of s) ≡ s .depth
+  path-size = path-long
+
+  pub entry-at : (i : ℕ) → i < s .depth → entry-of (s .order) (getD (s .levels) i no-level) ≡ getD (path-of s) i no-entry
+  entry-at i h =
+      let long : i < length (take (s .depth) (s .levels)) = omega (arith, length-take-le (s .depth) (s .levels) (omega (arith, s .deep, s .«levels_sized»))) in
+      sym (getD-map (entry-of (s .order)) (take (s .depth) (s .levels)) i no-level no-entry long ∙ ap (entry-of (s .order)) (getD-take (s .depth) (s .levels) i no-level h))
+
+  pub place-small : (i : ℕ) → i < s .depth → getD (s .levels) i no-level .place < 8192
+  place-small i h = omega (arith, room,
+    shown-placed (problem-of (s .problem)) (kept-in (s .clauses)) (s .index) (s .length) (s .order) (pins-of (s .pins)) (s .root) (s .marks) (s .levels) (s .depth) (s .sound) i h)

@@ -134,7 +134,7 @@ module _ (p : Problem) (V : Clauses) (ix : Index) (T : ℕ) (order : List Cell) 
         range = s .range;
         rooted = s .rooted;
         long = r .same-length ∙ s .long;
-        rest = restored ix (s .levels .0) m m′ (s .levels .1) (s .levels .6) back (seeds ix (with-path pins (path-at order ls n)) T) (s .levels .4);
+        rest = restored m m′ (getD ls n no-level .trail) r ix (seeds ix (with-path pins (path-at order ls n)) T) (s .levels .0) (s .levels .1) (s .levels .3) (s .levels .6) (s .levels .4);
         levels = levels-grow ix T pins order ls n grown (s .levels .7);
         placed = λ k h. s .placed k (omega arith);
         kept = kept-front (Such p T pins) T (steps p) pins (places-in order) (path-at order ls n) (entry-of order (getD ls n no-level) ∷ [])

@@ -3,3 +3,4 @@ pub mod Levels
 pub mod Ordering
 pub mod Sound
 pub mod Looks
+pub mod Begins

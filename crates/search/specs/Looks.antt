@@ -11,6 +11,7 @@ use Rattle.std.specs.declared.option.Option.the-variants.{Some, None as Nothing
 use Rattle.model.specs.declared.cell.Cell.{Cell}
 use Rattle.model.specs.declared.path.Entry.{Entry}
 use Rattle.model.specs.declared.path.Side.{Side}
+use Rattle.model.specs.declared.path.Side.the-variants.{LeftOut}
 use Rattle.model.specs.declared.answers.Outcome.{Outcome}
 use Rattle.model.specs.declared.answers.Outcome.the-variants.{NotYet, Plan, NoPlan}
 use Rattle.model.specs.Problems.{Problem, steps}
@@ -49,6 +50,10 @@ cells a = a .length * steps (a .problem)
 
 abbrev pub path-of : Search → List Entry
 path-of s = path-at (s .order) (s .levels) (s .depth)
+
+-- what stands past the end of a path
+abbrev pub no-entry : Entry
+no-entry = record { cell = record { time = 0; step = 0 }; side = LeftOut }
 
 -- the plan that was found last
 abbrev pub plan-of : Search → Cells

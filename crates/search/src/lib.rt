@@ -4,3 +4,6 @@ pub mod tables;
 pub mod look;
 pub mod choose;
 pub mod run;
+pub mod begin;
+pub mod fresh;
+pub mod tells;

@@ -87,9 +87,9 @@ joined-agrees s s′ f b j old l i o =
     ⊎-elim
     (λ p. ⊎-elim (old l p) (λ e. both-ways (lit-in s (opposite (literal b f))) (u .1) (subst (λ (m : Literal). lit-in s m ≡ true) (flipped l (literal b f) e) p)) (j .more .members (opposite l) o))
     (λ e. ⊎-elim
-      (λ p. both-ways (lit-in s (opposite (literal b f))) (u .1) (subst (λ (m : Literal). lit-in s (opposite m) ≡ true) e p))
-      (λ k. apart l (e ∙ sym k))
-      (j .more .members (opposite l) o))
+    (λ p. both-ways (lit-in s (opposite (literal b f))) (u .1) (subst (λ (m : Literal). lit-in s (opposite m) ≡ true) e p))
+    (λ k. apart l (e ∙ sym k))
+    (j .more .members (opposite l) o))
     (j .more .members l i)
 
 pub joins-below : (n : ℕ) (s s′ : LiteralSet) (f : ℕ) (b : Bool) (w : Place) (r : Result (Unit {0}) SheetFault) → Joins s f b w r s′ → f < n → LiteralsBelow n s → LiteralsBelow n s′

@@ -87,7 +87,7 @@ pub in-use : (p : SheetProblem) (o : ℕ) (d : StepRecord) → o < p .count → 
 in-use p o d h =
     let room : o < length (p .steps) = omega (arith, p .«few_steps», p .«step_room») in
     sym (getD-map open-step (stated p .steps) o no-step closed-step (omega (arith, steps-count p))
-         ∙ ap open-step (getD-take (p .count) (map job-step (p .steps)) o no-step h ∙ getD-map job-step (p .steps) o d no-step room))
+    ∙ ap open-step (getD-take (p .count) (map job-step (p .steps)) o no-step h ∙ getD-map job-step (p .steps) o d no-step room))
 
 pub beyond : (p : SheetProblem) (o : ℕ) → p .count ≤ o → closed-step ≡ step (problem-in (stated p)) o
 beyond p o h = sym (getD-past (map open-step (stated p .steps)) o closed-step (omega (arith, length-map (stated p .steps) open-step, steps-count p)))

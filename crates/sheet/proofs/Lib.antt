@@ -4,4 +4,5 @@ pub mod Joining
 pub mod Stating
 pub mod Empty
 pub mod Lawful
+pub mod Lines
 pub mod Reading

@@ -136,16 +136,22 @@ module _ (j : Job) (js : List JobStep) (count : ℕ) (is : j .steps ≡ take cou
 
   pub need-told : (ks : List JobStep) (f : ℕ) (b : Bool) (name : List ℕ) (w : Place) (r : Result (Unit {0}) SheetFault) → Names j name f → NeedJoins js (count - 1) f b w r ks
       → Cases r (λ _. Adds j (need b name) (with-steps j (take count ks))) (λ e. Flawed j (need b name) w e)
-  need-told ks f b name w (Ok u) n h =
-      (f, n, subst (λ (s : JobStep). mentions (s .needs) f ≡ false) last-is (h .2 .free),
-       ap (with-steps j) (last-set with-needs (λ (s : JobStep). s .needs) ks (h .0) (literal b f) (h .1) (h .2 .more .value)))
+  need-told ks f b name w (Ok u) n h = (
+    f,
+    n,
+    subst (λ (s : JobStep). mentions (s .needs) f ≡ false) last-is (h .2 .free),
+    ap (with-steps j) (last-set with-needs (λ (s : JobStep). s .needs) ks (h .0) (literal b f) (h .1) (h .2 .more .value)),
+  )
   need-told ks f b name w (Err e) n h = inr (f, n, subst (λ (s : JobStep). mentions (s .needs) f ≡ true) last-is (h .2 .0), h .2 .1)
 
   pub make-told : (ks : List JobStep) (f : ℕ) (b : Bool) (name : List ℕ) (w : Place) (r : Result (Unit {0}) SheetFault) → Names j name f → MakeJoins js (count - 1) f b w r ks
       → Cases r (λ _. Adds j (make b name) (with-steps j (take count ks))) (λ e. Flawed j (make b name) w e)
-  make-told ks f b name w (Ok u) n h =
-      (f, n, subst (λ (s : JobStep). mentions (s .makes) f ≡ false) last-is (h .2 .free),
-       ap (with-steps j) (last-set with-makes (λ (s : JobStep). s .makes) ks (h .0) (literal b f) (h .1) (h .2 .more .value)))
+  make-told ks f b name w (Ok u) n h = (
+    f,
+    n,
+    subst (λ (s : JobStep). mentions (s .makes) f ≡ false) last-is (h .2 .free),
+    ap (with-steps j) (last-set with-makes (λ (s : JobStep). s .makes) ks (h .0) (literal b f) (h .1) (h .2 .more .value)),
+  )
   make-told ks f b name w (Err e) n h = inr (f, n, subst (λ (s : JobStep). mentions (s .makes) f ≡ true) last-is (h .2 .0), h .2 .1)
 
 -- a step of which only the name is told

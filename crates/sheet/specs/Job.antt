@@ -78,7 +78,10 @@ wanting l j = record { times = j .times; facts = j .facts; start = j .start; goa
 
 abbrev pub stepping : List ℕ → Job → Job
 stepping name j = record {
-  times = j .times; facts = j .facts; start = j .start; goal = j .goal;
+  times = j .times;
+  facts = j .facts;
+  start = j .start;
+  goal = j .goal;
   steps = j .steps ++ record { name = name; needs = no-literals; makes = no-literals } ∷ [];
 }
 

@@ -11,3 +11,4 @@ pub mod Records
 pub mod Stated
 pub mod Joins
 pub mod WriteFault
+pub mod Sheet

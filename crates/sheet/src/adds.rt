@@ -15,18 +15,18 @@ ghost use Rattle.sheet.specs.Records.{job-step};
 ghost use Rattle.sheet.specs.Statement.{fact as fact-line, holds, wanted, step as step-line, need, make};
 ghost use Rattle.sheet.specs.Stated.{stated};
 ghost use Rattle.sheet.specs.declared.fault.SheetFault.{SheetFault};
-use sets::facts::FactSet;
-use sets::facts::LiteralSet;
-use crate::entry::append;
-use crate::entry::first_match;
 use crate::entry::FactEntry;
 use crate::entry::StepEntry;
+use crate::entry::append;
+use crate::entry::first_match;
 use crate::fault::Place;
 use crate::fault::SheetFault;
 use crate::name::Name;
 use crate::problem::SheetProblem;
 use crate::record::FactRecord;
 use crate::record::StepRecord;
+use sets::facts::FactSet;
+use sets::facts::LiteralSet;
 
 // Whether the fact stands in the list, with either sign.
 fn stands_in(list: LiteralSet, fact: usize) -> bool
@@ -40,7 +40,11 @@ fn with_sign(list: LiteralSet, fact: usize, negative: bool) -> LiteralSet
     requires { ⌜ fact < 64 ⌝ }
     ensures { λ r. ⌜ With list (literal negative fact) r ⌝ }
 {
-    if negative { list.insert(2 * fact + 1) } else { list.insert(2 * fact) }
+    if negative {
+        list.insert(2 * fact + 1)
+    } else {
+        list.insert(2 * fact)
+    }
 }
 
 // Adds a literal to a list, unless its fact stands there with either sign.
@@ -56,7 +60,13 @@ fn join(list: &mut LiteralSet, fact: usize, negative: bool, field: Place) -> Res
 }
 
 // The record of the newest step is lent, and changed in place.
-fn add_need(steps: &mut [StepRecord], newest: usize, fact: usize, negative: bool, field: Place) -> Result<(), SheetFault>
+fn add_need(
+    steps: &mut [StepRecord],
+    newest: usize,
+    fact: usize,
+    negative: bool,
+    field: Place,
+) -> Result<(), SheetFault>
     requires { ⌜ (fact < 64) × (newest < length (now steps)) ⌝ }
     ensures { λ r. ⌜ NeedJoins (map job-step (now (steps .entry))) newest fact negative field r (map job-step (now (steps .exit))) ⌝ }
 {
@@ -64,7 +74,13 @@ fn add_need(steps: &mut [StepRecord], newest: usize, fact: usize, negative: bool
     join(&mut step.needs, fact, negative, field)
 }
 
-fn add_make(steps: &mut [StepRecord], newest: usize, fact: usize, negative: bool, field: Place) -> Result<(), SheetFault>
+fn add_make(
+    steps: &mut [StepRecord],
+    newest: usize,
+    fact: usize,
+    negative: bool,
+    field: Place,
+) -> Result<(), SheetFault>
     requires { ⌜ (fact < 64) × (newest < length (now steps)) ⌝ }
     ensures { λ r. ⌜ MakeJoins (map job-step (now (steps .entry))) newest fact negative field r (map job-step (now (steps .exit))) ⌝ }
 {
@@ -79,7 +95,11 @@ impl StepRecord {
         ensures needs { λ r. ⌜ ((l : Literal) → lit-in (r .needs) l ≡ false) ⌝ }
         ensures makes { λ r. ⌜ ((l : Literal) → lit-in (r .makes) l ≡ false) ⌝ }
     {
-        StepRecord { name, needs: LiteralSet::empty(), makes: LiteralSet::empty() }
+        StepRecord {
+            name,
+            needs: LiteralSet::empty(),
+            makes: LiteralSet::empty(),
+        }
     }
 }
 
@@ -88,9 +108,19 @@ impl SheetProblem {
     pub fn empty() -> SheetProblem
         ensures { λ r. ⌜ stated r ≡ no-job ⌝ }
     {
-        let fact = FactRecord { name: Name::blank() };
+        let fact = FactRecord {
+            name: Name::blank(),
+        };
         let step = StepRecord::new(Name::blank());
-        SheetProblem { times: 0, facts: [fact; 64], named: 0, steps: [step; 256], count: 0, start: FactSet::empty(), goal: LiteralSet::empty() }
+        SheetProblem {
+            times: 0,
+            facts: [fact; 64],
+            named: 0,
+            steps: [step; 256],
+            count: 0,
+            start: FactSet::empty(),
+            goal: LiteralSet::empty(),
+        }
     }
 
     fn find_fact(&self, name: &[u8]) -> Option<usize>
@@ -124,7 +154,9 @@ impl SheetProblem {
         if let Some(_) = self.find_fact(name) {
             return Err(SheetFault::Repeated(field));
         }
-        let fact = FactRecord { name: Name::new(name) };
+        let fact = FactRecord {
+            name: Name::new(name),
+        };
         match append(&mut self.facts, self.named, fact) {
             Some(named) => {
                 self.named = named;
@@ -146,7 +178,12 @@ impl SheetProblem {
         Ok(())
     }
 
-    pub(crate) fn add_wanted(&mut self, negative: bool, name: &[u8], field: Place) -> Result<(), SheetFault>
+    pub(crate) fn add_wanted(
+        &mut self,
+        negative: bool,
+        name: &[u8],
+        field: Place,
+    ) -> Result<(), SheetFault>
         ensures { λ r. ⌜ Cases r (λ _. Adds (stated (now (self .entry))) (wanted negative (now (name .entry))) (stated (now (self .exit))))
             (λ e. Flawed (stated (now (self .entry))) (wanted negative (now (name .entry))) field e) ⌝ }
     {
@@ -172,7 +209,12 @@ impl SheetProblem {
         }
     }
 
-    pub(crate) fn add_need(&mut self, negative: bool, name: &[u8], field: Place) -> Result<(), SheetFault>
+    pub(crate) fn add_need(
+        &mut self,
+        negative: bool,
+        name: &[u8],
+        field: Place,
+    ) -> Result<(), SheetFault>
         requires { ⌜ 0 < now self .count ⌝ }
         ensures { λ r. ⌜ Cases r (λ _. Adds (stated (now (self .entry))) (need negative (now (name .entry))) (stated (now (self .exit))))
             (λ e. Flawed (stated (now (self .entry))) (need negative (now (name .entry))) field e) ⌝ }
@@ -181,7 +223,12 @@ impl SheetProblem {
         add_need(&mut self.steps, self.count - 1, fact, negative, field)
     }
 
-    pub(crate) fn add_make(&mut self, negative: bool, name: &[u8], field: Place) -> Result<(), SheetFault>
+    pub(crate) fn add_make(
+        &mut self,
+        negative: bool,
+        name: &[u8],
+        field: Place,
+    ) -> Result<(), SheetFault>
         requires { ⌜ 0 < now self .count ⌝ }
         ensures { λ r. ⌜ Cases r (λ _. Adds (stated (now (self .entry))) (make negative (now (name .entry))) (stated (now (self .exit))))
             (λ e. Flawed (stated (now (self .entry))) (make negative (now (name .entry))) field e) ⌝ }

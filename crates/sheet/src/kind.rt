@@ -37,7 +37,11 @@ pub fn kind_of(letter: u8) -> Option<LineKind>
 }
 
 // Whether a line of kind `present` may stand after one of kind `previous`, `None` at the start of the sheet.
-pub fn check_order(previous: Option<LineKind>, present: LineKind, line: u32) -> Result<(), SheetFault>
+pub fn check_order(
+    previous: Option<LineKind>,
+    present: LineKind,
+    line: u32,
+) -> Result<(), SheetFault>
     ensures { λ r. ⌜ Cases r (λ _. allowed previous present ≡ true) (λ e. (allowed previous present ≡ false) × (e ≡ SheetFault.Order (record { line = line; byte = 1 }))) ⌝ }
 {
     match (previous, present) {
@@ -57,7 +61,10 @@ pub fn check_end(previous: Option<LineKind>, line: u32) -> Result<(), SheetFault
     ensures { λ r. ⌜ Cases r (λ _. may-end previous ≡ true) (λ e. (may-end previous ≡ false) × (e ≡ SheetFault.NoFact (record { line = line; byte = 1 }))) ⌝ }
 {
     match previous {
-        None | Some(LineKind::Version) | Some(LineKind::Length) => Err(SheetFault::NoFact(Place { line, byte: 1 })),
+        None | Some(LineKind::Version) | Some(LineKind::Length) => Err(SheetFault::NoFact(Place {
+            line,
+            byte: 1,
+        })),
         Some(_) => Ok(()),
     }
 }

@@ -9,8 +9,8 @@ ghost use Rattle.sheet.specs.Print.{IsName};
 ghost use Rattle.sheet.specs.Statement.{Statement, Prints, InField, headed, meant, signed, kindIn};
 use crate::field::is_name;
 use crate::field::number;
-use crate::kind::kind_of;
 use crate::kind::LineKind;
+use crate::kind::kind_of;
 
 // What a line states. The names are parts of the sheet.
 #[derive(Clone, Copy)]
@@ -44,14 +44,20 @@ fn signed_name<'a>(field: &'a [u8]) -> Option<SignedName<'a>>
     match field {
         [b'-', rest @ ..] => {
             if is_name(rest) {
-                Some(SignedName { negative: true, name: rest })
+                Some(SignedName {
+                    negative: true,
+                    name: rest,
+                })
             } else {
                 None
             }
         }
         _ => {
             if is_name(field) {
-                Some(SignedName { negative: false, name: field })
+                Some(SignedName {
+                    negative: false,
+                    name: field,
+                })
             } else {
                 None
             }

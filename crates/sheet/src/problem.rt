@@ -5,10 +5,10 @@ ghost use lib.ListN.{length};
 ghost use Rattle.model.specs.Tables.{FactsBelow, LiteralsBelow, NoOpposites};
 ghost use Rattle.sheet.specs.Records.{NeedsBelow, MakesBelow, job-step};
 ghost use mathlib.Core.List.{map};
-use sets::facts::FactSet;
-use sets::facts::LiteralSet;
 use crate::record::FactRecord;
 use crate::record::StepRecord;
+use sets::facts::FactSet;
+use sets::facts::LiteralSet;
 
 // The facts from `named` on and the steps from `count` on are not in use. With no fact named, one unnamed fact stands.
 #[derive(Drop)]

@@ -4,12 +4,12 @@ ghost use mathlib.Core.Bool.{true};
 ghost use Prim.Native.Nat.{ℕ, _+_, _<_, _≤_};
 ghost use lib.ListN.{length};
 ghost use Rattle.std.specs.Results.{Cases};
-ghost use Rattle.std.specs.Vec.{made};
-ghost use Rattle.std.specs.declared.option.Option.the-variants.{Some};
+ghost use mathlib.Core.Logic.{_⊎_};
 ghost use Rattle.sheet.specs.Job.{Adds, Flawed, field, no-job};
 ghost use Rattle.sheet.specs.declared.fault.ByteFault.{ByteFault};
 ghost use Rattle.sheet.specs.declared.fault.LineFault.{LineFault};
 ghost use Rattle.sheet.specs.Kind.{allowed, in-step, after-step};
+ghost use Rattle.sheet.specs.Sheet.{Next, Wrong, Reads, Broken, Unfinished, Refused};
 ghost use Rattle.sheet.specs.Statement.{Statement, Proper, meant, kindIn};
 ghost use Rattle.sheet.specs.Stated.{stated as job};
 use crate::cut::read_line;
@@ -19,11 +19,11 @@ use crate::fault::LineFaultFromByteFault;
 use crate::fault::Place;
 use crate::fault::SheetFault;
 use crate::fault::SheetFaultFromLineFault;
+use crate::kind::LineKind;
 use crate::kind::check_end;
 use crate::kind::check_order;
-use crate::kind::LineKind;
-use crate::line::kind_in;
 use crate::line::Line;
+use crate::line::kind_in;
 use crate::problem::SheetProblem;
 
 // Adds what a line states, or says why it may not stand.
@@ -58,10 +58,16 @@ fn add_line(problem: &mut SheetProblem, stated: Line, line: u32) -> Result<(), S
 }
 
 // One line: its kind, and what is left after it.
-fn one_line<'a>(problem: &mut SheetProblem, rest: &'a [u8], previous: Option<LineKind>, line: u32) -> Result<(LineKind, &'a [u8]), SheetFault>
+fn one_line<'a>(
+    problem: &mut SheetProblem,
+    rest: &'a [u8],
+    previous: Option<LineKind>,
+    line: u32,
+) -> Result<(LineKind, &'a [u8]), SheetFault>
     requires { ⌜ length (now rest) ≤ 65535 ⌝ }
     requires { ⌜ (after-step previous ≡ true → 0 < now problem .count) ⌝ }
-    ensures { λ r. ⌜ made r (λ x. (length (now (x .1)) < length (now (rest .entry))) × (after-step (Some (x .0)) ≡ true → 0 < now (problem .exit) .count)) ⌝ }
+    ensures { λ r. ⌜ Cases r (λ x. (t : Statement) × Next (now (rest .entry)) t (now (x .1)) × (x .0 ≡ kindIn t) × (allowed previous (kindIn t) ≡ true) × Adds (job (now (problem .entry))) t (job (now (problem .exit))))
+        (λ e. Wrong (now (rest .entry)) previous (job (now (problem .entry))) line e) ⌝ }
 {
     let (stated, after) = read_line(rest, line)?;
     let kind = kind_in(&stated);
@@ -73,6 +79,8 @@ fn one_line<'a>(problem: &mut SheetProblem, rest: &'a [u8], previous: Option<Lin
 // Every line of the sheet, from the first on.
 fn read_lines(problem: &mut SheetProblem, sheet: &[u8]) -> Result<(), SheetFault>
     requires { ⌜ length (now sheet) ≤ 65535 ⌝ }
+    requires { ⌜ job (now problem) ≡ no-job ⌝ }
+    ensures { λ r. ⌜ Cases r (λ _. Reads (now (sheet .entry)) (job (now (problem .exit)))) (λ e. Broken (now (sheet .entry)) e ⊎ Unfinished (now (sheet .entry)) e) ⌝ }
 {
     let mut rest = sheet;
     let mut previous = None;
@@ -108,13 +116,15 @@ fn check_bytes(sheet: &[u8]) -> Result<(), LineFault>
 
 // The problem that the sheet states, or the first fault and the empty problem.
 pub fn read(sheet: &[u8], problem: &mut SheetProblem) -> Result<(), SheetFault>
-    ensures { λ r. ⌜ Cases r (λ _. length (now (sheet .entry)) ≤ 65535) (λ _. job (now (problem .exit)) ≡ no-job) ⌝ }
+    ensures { λ r. ⌜ Cases r (λ _. Reads (now (sheet .entry)) (job (now (problem .exit)))) (λ e. Refused (now (sheet .entry)) e × (job (now (problem .exit)) ≡ no-job)) ⌝ }
 {
     *problem = SheetProblem::empty();
     check_bytes(sheet)?;
-    let read = read_lines(problem, sheet);
-    if read.is_err() {
-        *problem = SheetProblem::empty();
+    match read_lines(problem, sheet) {
+        Ok(()) => Ok(()),
+        Err(fault) => {
+            *problem = SheetProblem::empty();
+            Err(fault)
+        }
     }
-    read
 }

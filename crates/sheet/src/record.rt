@@ -1,8 +1,8 @@
 // The records that a sheet fills: one for each fact, one for each step.
 ghost use mathlib.Core.Path.{_≡_};
 ghost use Rattle.model.specs.Tables.{NoOpposites};
-use sets::facts::LiteralSet;
 use crate::name::Name;
+use sets::facts::LiteralSet;
 
 #[derive(Clone, Copy)]
 pub struct FactRecord {

@@ -3,11 +3,11 @@ ghost use mathlib.Core.Path.{_≡_};
 ghost use Prim.Native.Nat.{_≤_};
 ghost use Rattle.sheet.specs.Job.{problem-in};
 ghost use Rattle.sheet.specs.Stated.{stated};
+use crate::problem::SheetProblem;
 use model::source::ProblemSource;
 use model::step::Step;
 use sets::facts::FactSet;
 use sets::facts::LiteralSet;
-use crate::problem::SheetProblem;
 
 pub impl ProblemSource for SheetProblem as SheetSource {
     ghost meaning = { λ p. problem-in (stated p) };
@@ -23,7 +23,11 @@ pub impl ProblemSource for SheetProblem as SheetSource {
     fn step(&self, number: usize) -> Step {
         if number < self.count {
             let row = self.steps[number];
-            Step { enabled: true, needs: row.needs, makes: row.makes }
+            Step {
+                enabled: true,
+                needs: row.needs,
+                makes: row.makes,
+            }
         } else {
             Step::closed()
         }

@@ -1,5 +1,4 @@
 pub mod Bijections
-pub mod Copies
 pub mod Tables
 pub mod Reaches
 pub mod Tested

@@ -2,6 +2,5 @@
 pub mod by_step;
 pub mod filter;
 pub mod forward;
-pub mod order;
 mod reach;
 pub mod water;

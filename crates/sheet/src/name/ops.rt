@@ -12,7 +12,10 @@ impl Name {
     pub fn blank() -> Name
         ensures { λ r. ⌜ nameBytes r ≡ [] ⌝ }
     {
-        Name { bytes: [0; 15], len: 0 }
+        Name {
+            bytes: [0; 15],
+            len: 0,
+        }
     }
 
     // The name with these bytes, of which there are at most 15.
@@ -23,7 +26,10 @@ impl Name {
         let mut bytes = [0u8; 15];
         let n = s.len();
         bytes[0..n].copy_from_slice(s);
-        Name { bytes, len: n as u8 }
+        Name {
+            bytes,
+            len: n as u8,
+        }
     }
 
     pub fn is(&self, s: &[u8]) -> bool

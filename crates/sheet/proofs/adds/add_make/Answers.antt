@@ -11,6 +11,8 @@ returns c =
     let rows = c .args .steps .now in
     let i = c .args .newest in
     let d = c .index-steps-newest .result in
-    let n = c .join .last .list in
-    (n, lent with-makes rows i d _ n (c .pre .1) refl,
-     subst (λ (s : JobStep). Joins (s .makes) (c .args .fact) (c .args .negative) (c .args .field) (c .join .result) n) (sym (getD-map job-step rows i d no-step (c .pre .1))) (c .join .ensures))
+    let n = c .join .last .list in (
+      n,
+      lent with-makes rows i d _ n (c .pre .1) refl,
+      subst (λ (s : JobStep). Joins (s .makes) (c .args .fact) (c .args .negative) (c .args .field) (c .join .result) n) (sym (getD-map job-step rows i d no-step (c .pre .1))) (c .join .ensures),
+    )

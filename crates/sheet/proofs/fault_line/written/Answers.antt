@@ -12,4 +12,4 @@ returns c =
     let l = ap (λ (p : Place). decimal (p .line)) (sym (c .place-of-place .ensures)) in
     let b = ap (λ (p : Place). decimal (p .byte)) (sym (c .place-of-place .ensures)) in
     adds-more (adds-more (adds-more (adds-more (adds-more (adds-more (c .bytes-sheet .ensures .adds) (adds-same n (c .number-which .ensures .adds)))
-      (c .bytes-line .ensures .adds)) (adds-same l (c .number-at-line .ensures .adds))) (c .bytes-byte .ensures .adds)) (adds-same b (c .number-at-byte .ensures .adds))) (c .put .ensures .adds)
+    (c .bytes-line .ensures .adds)) (adds-same l (c .number-at-line .ensures .adds))) (c .bytes-byte .ensures .adds)) (adds-same b (c .number-at-byte .ensures .adds))) (c .put .ensures .adds)

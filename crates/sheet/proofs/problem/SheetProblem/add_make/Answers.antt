@@ -20,11 +20,37 @@ pub ghost-self : need.ghost-self
 ghost-self c =
     let p = c .args .self .now in
     let f = c .in-Continue-fact .fact in
-    let a = c .add-make .ensures in
-    (p .short, (p .«few_facts», (p .«few_steps», (p .«fact_room», (same-room (p .steps) _ (p .count - 1) _ (a .1) ∙ p .«step_room», (p .«start_in», (p .«goal_in», (p .«goal_agrees»,
-     (subst (NeedsBelow (p .named)) (sym (a .1)) (at-set (λ (s : JobStep). LiteralsBelow (p .named) (s .needs)) _ (p .count - 1) _ (p .«needs_in» (p .count - 1)) (p .«needs_in»)),
-     (subst (MakesBelow (p .named)) (sym (a .1)) (at-set (λ (s : JobStep). LiteralsBelow (p .named) (s .makes)) _ (p .count - 1) _ (joins-below (p .named) _ (a .0) f (c .args .negative) (c .args .field) (c .add-make .result) (a .2) (named-below p (c .args .name .now) f (c .in-Continue-fact .ensures tt)) (p .«makes_in» (p .count - 1))) (p .«makes_in»)),
-     tt))))))))))
+    let a = c .add-make .ensures in (
+      p .short,
+      (
+        p .«few_facts»,
+        (
+          p .«few_steps»,
+          (
+            p .«fact_room»,
+            (
+              same-room (p .steps) _ (p .count - 1) _ (a .1) ∙ p .«step_room»,
+              (
+                p .«start_in»,
+                (
+                  p .«goal_in»,
+                  (
+                    p .«goal_agrees»,
+                    (
+                      subst (NeedsBelow (p .named)) (sym (a .1)) (at-set (λ (s : JobStep). LiteralsBelow (p .named) (s .needs)) _ (p .count - 1) _ (p .«needs_in» (p .count - 1)) (p .«needs_in»)),
+                      (
+                        subst (MakesBelow (p .named)) (sym (a .1)) (at-set (λ (s : JobStep). LiteralsBelow (p .named) (s .makes)) _ (p .count - 1) _ (joins-below (p .named) _ (a .0) f (c .args .negative) (c .args .field) (c .add-make .result) (a .2) (named-below p (c .args .name .now) f (c .in-Continue-fact .ensures tt)) (p .«makes_in» (p .count - 1))) (p .«makes_in»)),
+                        tt,
+                      ),
+                    ),
+                  ),
+                ),
+              ),
+            ),
+          ),
+        ),
+      ),
+    )
 
 pub returns : need.returns
 returns c =

@@ -23,21 +23,47 @@ ghost-self c =
     let p = c .args .self .now in
     let a = c .in-Some-append .ensures tt in
     let e : map job-step (c .append .last .table) ≡ set (map job-step (p .steps)) (p .count) (job-step (c .new-step .result)) =
-        ap (map job-step) (a .2) ∙ map-set job-step (p .steps) (p .count) (c .new-step .result) in
-    (p .short, (p .«few_facts», (omega (arith, a .0, a .1), (p .«fact_room», (ap length (a .2) ∙ length-set (p .steps) (p .count) (c .new-step .result) ∙ p .«step_room»,
-     (p .«start_in», (p .«goal_in», (p .«goal_agrees»,
-     (subst (NeedsBelow (p .named)) (sym e) (at-set (λ (s : JobStep). LiteralsBelow (p .named) (s .needs)) _ _ _ (λ l h. absurd (both-ways _ (c .new-step .ensures .needs l) h)) (p .«needs_in»)),
-     (subst (MakesBelow (p .named)) (sym e) (at-set (λ (s : JobStep). LiteralsBelow (p .named) (s .makes)) _ _ _ (λ l h. absurd (both-ways _ (c .new-step .ensures .makes l) h)) (p .«makes_in»)),
-     tt))))))))))
+    ap (map job-step) (a .2) ∙ map-set job-step (p .steps) (p .count) (c .new-step .result) in (
+      p .short,
+      (
+        p .«few_facts»,
+        (
+          omega (arith, a .0, a .1),
+          (
+            p .«fact_room»,
+            (
+              ap length (a .2) ∙ length-set (p .steps) (p .count) (c .new-step .result) ∙ p .«step_room»,
+              (
+                p .«start_in»,
+                (
+                  p .«goal_in»,
+                  (
+                    p .«goal_agrees»,
+                    (
+                      subst (NeedsBelow (p .named)) (sym e) (at-set (λ (s : JobStep). LiteralsBelow (p .named) (s .needs)) _ _ _ (λ l h. absurd (both-ways _ (c .new-step .ensures .needs l) h)) (p .«needs_in»)),
+                      (
+                        subst (MakesBelow (p .named)) (sym e) (at-set (λ (s : JobStep). LiteralsBelow (p .named) (s .makes)) _ _ _ (λ l h. absurd (both-ways _ (c .new-step .ensures .makes l) h)) (p .«makes_in»)),
+                        tt,
+                      ),
+                    ),
+                  ),
+                ),
+              ),
+            ),
+          ),
+        ),
+      ),
+    )
 
 pub returns-in-Some-append : need.returns-in-Some-append
 returns-in-Some-append c =
     let p = c .args .self .now in
-    let a = c .in-Some-append .ensures tt in
-    (c .in-rest .ensures tt,
-     subst (λ (n : ℕ). n < 256) (sym (steps-count p)) (a .0),
-     ap (with-steps (stated p)) (more job-step (p .steps) (c .append .last .table) (p .count) (c .in-Some-append .count) _ _ (omega (arith, a .0, p .«step_room»)) (a .1) (a .2)
-       (c .new-step .ensures .value ∙ ap bare (c .new .ensures))))
+    let a = c .in-Some-append .ensures tt in (
+      c .in-rest .ensures tt,
+      subst (λ (n : ℕ). n < 256) (sym (steps-count p)) (a .0),
+      ap (with-steps (stated p)) (more job-step (p .steps) (c .append .last .table) (p .count) (c .in-Some-append .count) _ _ (omega (arith, a .0, p .«step_room»)) (a .1) (a .2)
+          (c .new-step .ensures .value ∙ ap bare (c .new .ensures))),
+    )
 
 pub returns-in-None : need.returns-in-None
 returns-in-None c =

@@ -12,11 +12,34 @@ use Rattle.sheet.proofs.problem.SheetProblem.empty.Needs as need
 
 pub ghost-result : need.ghost-result
 ghost-result c =
-    let none : (l : Literal) → lit-in no-literals l ≡ false = λ l. subst (λ (s : LiteralSet). lit-in s l ≡ false) (c .empty-2 .ensures .value) (c .empty-2 .ensures .members l) in
-    (omega arith, (omega arith, (omega arith, (refl, (refl,
-     ((λ f h. absurd (both-ways _ (c .empty .ensures .members f) h)),
-     ((λ l h. absurd (both-ways _ (c .empty-2 .ensures .members l) h)),
-     ((λ l h k. both-ways _ (c .empty-2 .ensures .members l) h),
-     (at-all (λ (s : JobStep). LiteralsBelow 0 (s .needs)) 256 (c .new-step .result) (λ l h. absurd (both-ways _ (c .new-step .ensures .needs l) h)) (λ l h. absurd (both-ways _ (none l) h)),
-     (at-all (λ (s : JobStep). LiteralsBelow 0 (s .makes)) 256 (c .new-step .result) (λ l h. absurd (both-ways _ (c .new-step .ensures .makes l) h)) (λ l h. absurd (both-ways _ (none l) h)),
-     tt))))))))))
+    let none : (l : Literal) → lit-in no-literals l ≡ false = λ l. subst (λ (s : LiteralSet). lit-in s l ≡ false) (c .empty-2 .ensures .value) (c .empty-2 .ensures .members l) in (
+      omega arith,
+      (
+        omega arith,
+        (
+          omega arith,
+          (
+            refl,
+            (
+              refl,
+              (
+                (λ f h. absurd (both-ways _ (c .empty .ensures .members f) h)),
+                (
+                  (λ l h. absurd (both-ways _ (c .empty-2 .ensures .members l) h)),
+                  (
+                    (λ l h k. both-ways _ (c .empty-2 .ensures .members l) h),
+                    (
+                      at-all (λ (s : JobStep). LiteralsBelow 0 (s .needs)) 256 (c .new-step .result) (λ l h. absurd (both-ways _ (c .new-step .ensures .needs l) h)) (λ l h. absurd (both-ways _ (none l) h)),
+                      (
+                        at-all (λ (s : JobStep). LiteralsBelow 0 (s .makes)) 256 (c .new-step .result) (λ l h. absurd (both-ways _ (c .new-step .ensures .makes l) h)) (λ l h. absurd (both-ways _ (none l) h)),
+                        tt,
+                      ),
+                    ),
+                  ),
+                ),
+              ),
+            ),
+          ),
+        ),
+      ),
+    )

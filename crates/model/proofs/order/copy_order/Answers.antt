@@ -4,9 +4,9 @@ use lib.ListN.{length}
 use native.Mathlib.Omega.{arith}
 use borrow.Author.Needs.{needs}
 use Rattle.std.proofs.shelf.Tests.{le-leb, and-from, true≢false}
 use Rattle.model.specs.Rankings.{Copied}
-use Rattle.sources.proofs.Copies.{answer-within, sofar-more, each-once}
-use Rattle.sources.proofs.order.copy_order.Needs as need
+use Rattle.model.proofs.Copies.{answer-within, sofar-more, each-once}
+use Rattle.model.proofs.order.copy_order.Needs as need
 
 pub loop-place-again : need.loop-place-again
 loop-place-again g c =

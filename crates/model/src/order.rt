@@ -4,9 +4,9 @@ ghost use mathlib.Core.Bool.{true, false, _&&_};
 ghost use Prim.Native.Nat.{_*_};
 ghost use lib.Dec.{leb};
 ghost use lib.ListN.{length};
 ghost use Rattle.model.specs.Rankings.{Copied, Each-once, ranked};
-use model::cell::Cell;
-use model::ranking::Ranking;
+use crate::cell::Cell;
+use crate::ranking::Ranking;
 
 // The cells in the ranking's order, to the front of the table. False, with the table as it was, where the ranking
 // does not reach so far (more than 32 times or 256 steps) or the table is too short.
