@@ -3,13 +3,13 @@ use model::answers::Decline;
 use model::answers::Outcome;
 use planner::tables::Planner;
 use sheet::fault_line::write_fault;
-use sheet::reader::read;
 use sheet::problem::SheetProblem;
-use sheet::problem::SheetSource;
-use sources::forward::Forward;
-use sources::forward::ForwardRanking;
+use sheet::reader::read;
+use sheet::source::SheetSource;
 use sources::filter::ReachFilter;
 use sources::filter::ReachFilterSource;
+use sources::forward::Forward;
+use sources::forward::ForwardRanking;
 
 // How many runs a job is granted, and how many choices each.
 const RUNS: usize = 1000;
@@ -41,6 +41,9 @@ pub fn answer(planner: &mut Planner, bytes: &[u8], out: &mut [u8]) -> Result<usi
     let mut problem = SheetProblem::empty();
     match read(bytes, &mut problem) {
         Ok(()) => plan(planner, problem, out),
-        Err(fault) => write_fault(&fault, out),
+        Err(fault) => match write_fault(&fault, out) {
+            Ok(n) => Ok(n),
+            Err(_) => Err(Decline::TooShort),
+        },
     }
 }

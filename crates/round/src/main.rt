@@ -1,4 +1,7 @@
 // `round`: reads a job sheet from standard input and prints its job card, or why the sheet is declined.
+ghost use Prim.Native.Nat.{_≤_};
+ghost use lib.ListN.{length};
+ghost use Rattle.std.specs.Vec.{made};
 use jobs::answer;
 use planner::tables::Planner;
 use std::alloc::Global;
@@ -14,7 +17,9 @@ const MOST: usize = 65536;
 const CARD: usize = 32768;
 
 // Reads up to the end of the input, or until the bytes are full.
-fn fill(rt: &LibcRuntime, bytes: &mut [u8]) -> io::Result<usize> {
+fn fill(rt: &LibcRuntime, bytes: &mut [u8]) -> io::Result<usize>
+    ensures { λ r. ⌜ made r (λ n. n ≤ length (now (bytes .entry))) ⌝ }
+{
     let mut input = rt.stdin();
     let mut len = 0;
     for _ in 0..bytes.len() {
@@ -33,8 +38,8 @@ fn run(rt: &LibcRuntime, heap: Global) -> Result<(), AnyError> {
     let mut out = vec![in heap; 0u8; CARD]?;
     let mut planner = Box::new(heap, Planner::new())?;
     match answer(&mut planner, &bytes[0..len], &mut out) {
-        Ok(n) => Ok(rt.stdout().write_all(&out[0..n])?),
-        Err(_) => Err("the answer has no room".into()),
+        Ok(n) if n <= CARD => Ok(rt.stdout().write_all(&out[0..n])?),
+        _ => Err("the answer has no room".into()),
     }
 }
 
