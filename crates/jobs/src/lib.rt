@@ -13,6 +13,7 @@ use sources::forward::ForwardRanking;
 
 // How many runs a job is granted, and how many choices each.
 const RUNS: usize = 1000;
+
 const CHOICES: u32 = 1000000;
 
 // Runs the planner until it has an answer or the grant is used up.

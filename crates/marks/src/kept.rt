@@ -4,11 +4,11 @@ ghost use mathlib.Core.Bool.{true, false};
 ghost use mathlib.Core.Path.{_≡_};
 ghost use Rattle.std.specs.Options.{Cases};
 ghost use Rattle.marks.specs.Cells.{CellsOf, said, Unsaid};
-use sets::steps::StepSet;
-use model::cell::Cell;
-use model::path::Side;
 use crate::cells::CellMarks;
 use crate::tables::Marks;
+use model::cell::Cell;
+use model::path::Side;
+use sets::steps::StepSet;
 
 impl Marks {
     // The marks of the cells.

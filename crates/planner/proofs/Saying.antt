@@ -62,10 +62,11 @@ ends s s′ g Plan e r = (subst (λ (a : Ask). First (Wanted a) (a .length) (ste
 ends s s′ g NoPlan e r = (subst (λ (a : Ask). None (Wanted a)) (sym e) (r .0), r .1)
 
 pub says : (p q : Planner) (g : ℕ) (o : Outcome) → asked (q .search) ≡ asked (p .search) → Ran (p .search) g o (q .search) → RunSays p g o q
-says p q g NotYet e r =
-    (subst (λ (a : Ask). Fair (a .length) (steps (a .problem)) (a .pins) (path-of (q .search))) e (kept-now (q .search) .fair),
-     walks-pass (p .search .length) (steps (problem-of (p .search .problem))) (pins-of (p .search .pins)) g (path-of (p .search)) (path-of (q .search)) r,
-     subst (λ (a : Ask). NoneLeft (Wanted a) (path-of (q .search))) e (kept-now (q .search) .none-left))
+says p q g NotYet e r = (
+  subst (λ (a : Ask). Fair (a .length) (steps (a .problem)) (a .pins) (path-of (q .search))) e (kept-now (q .search) .fair),
+  walks-pass (p .search .length) (steps (problem-of (p .search .problem))) (pins-of (p .search .pins)) g (path-of (p .search)) (path-of (q .search)) r,
+  subst (λ (a : Ask). NoneLeft (Wanted a) (path-of (q .search))) e (kept-now (q .search) .none-left),
+)
 says p q g Plan e r = (∣ (plan-of (q .search), r .0 .0) ∣₁, r .1)
 says p q g NoPlan e r = r
 
@@ -85,7 +86,7 @@ card-same a b m (suc t) h =
 -- the table's card is the plan's
 pub plan-card : (s : Search) → cardOf (taken-in (s .plan .taken)) (steps (problem-of (s .problem))) (s .length) ≡ cardOf (plan-of s) (steps (problem-of (s .problem))) (s .length)
 plan-card s = card-same (taken-in (s .plan .taken)) (plan-of s) (steps (problem-of (s .problem))) (s .length)
-  (λ t o l k. sym (ap (λ (b : Bool). b && step-in (getD (s .plan .taken) t no-steps) o) (and-from _ _ (lt-ltb t (s .length) l) (lt-ltb o (steps (problem-of (s .problem))) k))))
+    (λ t o l k. sym (ap (λ (b : Bool). b && step-in (getD (s .plan .taken) t no-steps) o) (and-from _ _ (lt-ltb t (s .length) l) (lt-ltb o (steps (problem-of (s .problem))) k))))
 
 -- the cell that was pinned, and the others
 pub pin-here : (pins new : Pins) (c : Cell) (pin : Pin) (t o : ℕ) → c .time ≡ t → c .step ≡ o → t < 32
@@ -95,10 +96,10 @@ pin-here pins new c pin t o a b l h = h ∙ cond-true _ _ _ (and-from _ _ (lt-lt
 pub pin-there : (pins new : Pins) (c : Cell) (pin : Pin) (t o u k : ℕ) → c .time ≡ t → c .step ≡ o → ((u ≡ t) × (k ≡ o) → ⊥)
     → new u k ≡ with-pin pins c pin u k → new u k ≡ pins u k
 pin-there pins new c pin t o u k a b n h = ⊎-elim
-  (λ q. let r = and-parts (ltb (c .time) 32) (eqb (c .time) u && eqb (c .step) k) q in let e = and-parts (eqb (c .time) u) (eqb (c .step) k) (r .1) in
+    (λ q. let r = and-parts (ltb (c .time) 32) (eqb (c .time) u && eqb (c .step) k) q in let e = and-parts (eqb (c .time) u) (eqb (c .step) k) (r .1) in
     absurd (n (sym (eqb-true _ _ (e .0)) ∙ a, sym (eqb-true _ _ (e .1)) ∙ b)))
-  (λ q. h ∙ cond-false _ _ _ q)
-  (cases-bool (ltb (c .time) 32 && (eqb (c .time) u && eqb (c .step) k)))
+    (λ q. h ∙ cond-false _ _ _ q)
+    (cases-bool (ltb (c .time) 32 && (eqb (c .time) u && eqb (c .step) k)))
 
 -- nothing declines after an ask
 pub asked-stage : (s : Stage) (m : Option Decline) → Nothing ≡ cond (unopened s) (Some Unopened) (cond (unasked s) (Some Unasked) m) → s ≡ Asked
@@ -125,8 +126,8 @@ writes-plan p out out′ r table m T e a b c f =
     let s = p .search in
     let short : min T 32 ≡ s .length = omega (arith, c, s .short) in
     let same : cardOf (taken-in table) m (min T 32) ≡ cardOf (plan-of s) (steps (problem-of (s .problem))) (s .length)
-          = ap (λ (z : List StepSet). cardOf (taken-in z) m (min T 32)) a ∙ ap (λ (n : ℕ). cardOf (taken-in (s .plan .taken)) n (min T 32)) b
-            ∙ ap (λ (n : ℕ). cardOf (taken-in (s .plan .taken)) (steps (problem-of (s .problem))) n) short ∙ plan-card s in
+    = ap (λ (z : List StepSet). cardOf (taken-in z) m (min T 32)) a ∙ ap (λ (n : ℕ). cardOf (taken-in (s .plan .taken)) n (min T 32)) b
+    ∙ ap (λ (n : ℕ). cardOf (taken-in (s .plan .taken)) (steps (problem-of (s .problem))) n) short ∙ plan-card s in
     writes-as p Plan out out′ r e
     (∥∥₁-map (subst (λ (o : Outcome). ∥ Ends s o ∥₁) e (p .ended))
-      (λ w. (cardOf (plan-of s) (steps (problem-of (s .problem))) (s .length), (plan-of s, w .0, refl), subst (λ (text : List ℕ). Fitted text out r out′) same f)))
+    (λ w. (cardOf (plan-of s) (steps (problem-of (s .problem))) (s .length), (plan-of s, w .0, refl), subst (λ (text : List ℕ). Fitted text out r out′) same f)))

@@ -93,7 +93,7 @@ abbrev pub RunSays : Planner → ℕ → Outcome → Planner → Type 0
 RunSays p g NotYet q =
     Fair (p .search .length) (steps (problem-of (p .search .problem))) (pins-of (p .search .pins)) (path-of (q .search))
     × (passed (p .search .length * steps (problem-of (p .search .problem))) (path-of (p .search)) + g
-        ≤ passed (p .search .length * steps (problem-of (p .search .problem))) (path-of (q .search)))
+    ≤ passed (p .search .length * steps (problem-of (p .search .problem))) (path-of (q .search)))
     × NoneLeft (Wanted (asked (p .search))) (path-of (q .search))
 RunSays p g Plan q = ∥ ((c : Cells) × Wanted (asked (p .search)) c) ∥₁ × (path-of (q .search) ≡ [])
 RunSays p g NoPlan q = None (Wanted (asked (p .search))) × (path-of (q .search) ≡ [])

@@ -8,8 +8,10 @@ ghost use Rattle.std.specs.declared.option.Option.the-variants.{None};
 ghost use Rattle.model.specs.Problems.{steps as row-count};
 ghost use Rattle.model.specs.Held.{problem-of};
 ghost use Rattle.search.specs.Begins.{Opened as OpenedOver, Asked as AskedFor};
-ghost use Rattle.search.specs.Looks.{path-of, no-entry};
+ghost use Rattle.search.specs.Looks.{asked as asked-of, path-of, no-entry};
 ghost use Rattle.planner.specs.Calls.{declined, unless-asked, unless-out, ask-declines, run-declines, look-declines, Began, RunSays};
+use crate::tables::Planner;
+use crate::tables::Stage;
 use model::answers::Decline;
 use model::answers::Outcome;
 use model::cell::Cell;
@@ -17,8 +19,6 @@ use model::path::Entry;
 use model::ranking::Ranking;
 use model::source::ProblemSource;
 use search::tables::Search;
-use crate::tables::Planner;
-use crate::tables::Stage;
 
 impl Planner {
     // A planner that nothing was opened in.
@@ -30,6 +30,13 @@ impl Planner {
             search: Search::new(),
             outcome: Outcome::NotYet,
         }
+    }
+
+    // How many bytes a planner has: at most half of the box's 512 KiB.
+    pub fn bytes() -> usize
+        ensures { λ r. ⌜ r ≤ 262144 ⌝ }
+    {
+        std::mem::size_of::<Planner>()
     }
 
     // Copies a source's problem, and forgets any ask.
@@ -88,7 +95,10 @@ impl Planner {
         if time >= self.search.length() || step >= self.search.steps() {
             return Err(Decline::OutOfRange);
         }
-        Ok(Cell { time: time as u8, step: step as u8 })
+        Ok(Cell {
+            time: time as u8,
+            step: step as u8,
+        })
     }
 
     // Up to so many choices: a plan, none, or not yet. After an ending it answers the same again.
@@ -96,6 +106,8 @@ impl Planner {
         ensures number { λ r. ⌜ declined r ≡ run-declines (now (self .entry)) choices ⌝ }
         ensures kept { λ r. ⌜ refused r (λ _. now (self .exit) ≡ now (self .entry)) ⌝ }
         ensures says { λ r. ⌜ made r (λ o. RunSays (now (self .entry)) choices o (now (self .exit))) ⌝ }
+        ensures after { λ r. ⌜ made r (λ o. now (self .exit) .outcome ≡ o) ⌝ }
+        ensures same { λ _. ⌜ (asked-of (now (self .exit) .search) ≡ asked-of (now (self .entry) .search)) × (now (self .exit) .stage ≡ now (self .entry) .stage) ⌝ }
     {
         self.asked()?;
         if choices == 0 || choices > 1000000 {

@@ -4,10 +4,10 @@ ghost use Rattle.std.specs.Vec.{made, refused};
 ghost use Rattle.model.specs.Plans.{unpinned};
 ghost use Rattle.marks.specs.Pinning.{pin-of};
 ghost use Rattle.planner.specs.Calls.{declined, pin-declines, unpin-declines, Began, Pins, pin-for};
+use crate::tables::Planner;
 use model::answers::Decline;
 use model::answers::Outcome;
 use model::path::Side;
-use crate::tables::Planner;
 
 fn side_of(taken: bool) -> Side
     ensures { λ r. ⌜ pin-of r ≡ pin-for taken ⌝ }

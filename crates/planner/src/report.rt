@@ -1,11 +1,11 @@
 // Reporting the outcome as a job card.
 ghost use Rattle.planner.specs.Calls.{Writes, Reports};
+use crate::tables::Planner;
 use model::answers::Decline;
 use model::answers::Outcome;
 use text::card::write_card;
 use text::card::write_none;
 use text::card::write_not_yet;
-use crate::tables::Planner;
 
 impl Planner {
     // Writes the card into the bytes, if there is room for all of it.
@@ -15,7 +15,12 @@ impl Planner {
         match self.outcome {
             Outcome::NotYet => write_not_yet(out),
             Outcome::NoPlan => write_none(out),
-            Outcome::Plan => write_card(self.search.taken(), self.search.steps(), self.search.length(), out),
+            Outcome::Plan => write_card(
+                self.search.taken(),
+                self.search.steps(),
+                self.search.length(),
+                out,
+            ),
         }
     }
 

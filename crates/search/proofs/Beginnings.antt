@@ -50,16 +50,24 @@ table-well t = record {
   goal-in-range = t .«goal_in»;
   needs-agree = t .«needs_agree»;
   makes-agree = t .«makes_agree»;
-  goal-agrees = t .«goal_agrees»
+  goal-agrees = t .«goal_agrees»;
 }
 
 -- the index means the clauses that the rows hold
 pub means-kept : (ix : Index) (p : Problem) (rows : List LiteralSet) (V : Clauses) → ((a b : Literal) → lit-in (getD rows (code a) no-literals) b ≡ V a b)
     → Means ix p (clauses-of rows) → Means ix p V
 means-kept ix p rows V e w = record {
-  needs = w .needs; needers = w .needers; makes = w .makes; rivals = w .rivals; all-rivals = w .all-rivals;
+  needs = w .needs;
+  needers = w .needers;
+  makes = w .makes;
+  rivals = w .rivals;
+  all-rivals = w .all-rivals;
   clauses = λ a b. w .clauses a b ∙ e (lit a) (lit b);
-  start = w .start; all-start = w .all-start; goal = w .goal; closed = w .closed; all-closed = w .all-closed
+  start = w .start;
+  all-start = w .all-start;
+  goal = w .goal;
+  closed = w .closed;
+  all-closed = w .all-closed;
 }
 
 -- at length 0 there is no cell
@@ -68,7 +76,7 @@ ordered-none m order = record {
   place-below = λ c r q. absurd (omega arith);
   cell-below = λ k h. absurd (let z : 0 * m ≡ 0 = zero-mul m in omega arith);
   cell-of-place = λ c r q. absurd (omega arith);
-  place-of-cell = λ k h. absurd (let z : 0 * m ≡ 0 = zero-mul m in omega arith)
+  place-of-cell = λ k h. absurd (let z : 0 * m ≡ 0 = zero-mul m in omega arith);
 }
 
 pinned-not : (x : Pin) → x ≡ unpinned → (x ≡ take) ⊎ (x ≡ leave) → ⊥
@@ -82,11 +90,11 @@ range-none pins T m free t o h = absurd (pinned-not (pins t o) (free t o) h)
 pub range-with : (pins new : Pins) (T m : ℕ) (c : Cell) (pin : Pin) → ((c .time < T) × (c .step < m)) ⊎ (pin ≡ unpinned) → InRange pins T m
     → ((t o : ℕ) → new t o ≡ with-pin pins c pin t o) → InRange new T m
 range-with pins new T m c pin inside r w t o h = ⊎-elim
-  (λ b. let e = w t o ∙ cond-true _ _ _ b in ⊎-elim
+    (λ b. let e = w t o ∙ cond-true _ _ _ b in ⊎-elim
     (λ i. let q = at-cell c t o (and-parts (ltb (c .time) 32) (is-cell c t o) b .1) in (subst (λ (u : ℕ). u < T) (q .0) (i .0), subst (λ (u : ℕ). u < m) (q .1) (i .1)))
     (λ u. absurd (pinned-not (new t o) (e ∙ u) h)) inside)
-  (λ b. let e = w t o ∙ cond-false _ _ _ b in r t o (⊎-elim (λ k. inl (sym e ∙ k)) (λ k. inr (sym e ∙ k)) h))
-  (cases-bool (ltb (c .time) 32 && is-cell c t o))
+    (λ b. let e = w t o ∙ cond-false _ _ _ b in r t o (⊎-elim (λ k. inl (sym e ∙ k)) (λ k. inr (sym e ∙ k)) h))
+    (cases-bool (ltb (c .time) 32 && is-cell c t o))
 
 -- the search at the beginning
 pub begins : (t : ProblemTable) (V : Clauses) (ix : Index) (T : ℕ) (order : List Cell) (pins : Pins) (root : CellMarks) (m : Marks) (ls : List Level)
@@ -101,14 +109,14 @@ module _ (s : Search) where
       → Begun (s .index) pins (s .length) m → CellsOf m root
       → ∥ Sound (problem-of (s .problem)) (kept-in (s .clauses)) (s .index) (s .length) (s .order) pins root m (s .levels) 0 ∥₁
   begins-anew pins root m range b k = ∥∥₁-map (s .sound)
-    (λ x. sound-begin (problem-of (s .problem)) (kept-in (s .clauses)) (s .index) (s .length) (s .order) pins root m (s .levels) (x .well) (x .largest) (x .means) (x .ordered) range
+      (λ x. sound-begin (problem-of (s .problem)) (kept-in (s .clauses)) (s .index) (s .length) (s .order) pins root m (s .levels) (x .well) (x .largest) (x .means) (x .ordered) range
       (m, b .the-length, b .rest, k) (b .the-length) (b .rest))
 
   pub asks-anew : (T : ℕ) (order : List Cell) (pins : Pins) (root : CellMarks) (m : Marks) → Ordered T (steps (problem-of (s .problem))) (places-in order)
       → InRange pins T (steps (problem-of (s .problem))) → Begun (s .index) pins T m → CellsOf m root
       → ∥ Sound (problem-of (s .problem)) (kept-in (s .clauses)) (s .index) T order pins root m (s .levels) 0 ∥₁
   asks-anew T order pins root m ordered range b k = ∥∥₁-map (s .sound)
-    (λ x. sound-begin (problem-of (s .problem)) (kept-in (s .clauses)) (s .index) T order pins root m (s .levels) (x .well) (x .largest) (x .means) ordered range
+      (λ x. sound-begin (problem-of (s .problem)) (kept-in (s .clauses)) (s .index) T order pins root m (s .levels) (x .well) (x .largest) (x .means) ordered range
       (m, b .the-length, b .rest, k) (b .the-length) (b .rest))
 
   pub range-now : InRange (pins-of (s .pins)) (s .length) (steps (problem-of (s .problem)))

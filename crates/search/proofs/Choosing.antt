@@ -59,7 +59,7 @@ module _ (ix : Index) (T : ℕ) (pins : Pins) (path : List Entry) (c : Cell) (s 
 
   old-free : (t o : ℕ) → is-cell c t o ≡ true → with-path pins path t o ≡ unpinned
   old-free t o k = let q = at-cell c t o k in
-    sym (ap (λ (u : ℕ). with-path pins path u o) (q .0)) ∙ sym (ap (λ (u : ℕ). with-path pins path (c .time) u) (q .1)) ∙ free
+      sym (ap (λ (u : ℕ). with-path pins path u o) (q .0)) ∙ sym (ap (λ (u : ℕ). with-path pins path (c .time) u) (q .1)) ∙ free
 
   here : (t o : ℕ) → is-cell c t o ≡ true → more t o ≡ pin-of s
   unfolding e more
@@ -72,22 +72,22 @@ module _ (ix : Index) (T : ℕ) (pins : Pins) (path : List Entry) (c : Cell) (s 
   -- nothing that was said is lost
   kept : (test : Pin → Bool) → test unpinned ≡ false → (t o : ℕ) → test (with-path pins path t o) ≡ true → test (more t o) ≡ true
   kept test n t o h = ⊎-elim
-    (λ k. absurd (both-ways (test (with-path pins path t o)) (ap test (old-free t o k) ∙ n) h))
-    (λ k. ap test (other t o k) ∙ h)
-    (cases-bool (is-cell c t o))
+      (λ k. absurd (both-ways (test (with-path pins path t o)) (ap test (old-free t o k) ∙ n) h))
+      (λ k. ap test (other t o k) ∙ h)
+      (cases-bool (is-cell c t o))
 
   -- what is said now was said, or is of the cell
   whence : (test : Pin → Bool) (t o : ℕ) → test (more t o) ≡ true → (test (with-path pins path t o) ≡ true) ⊎ ((is-cell c t o ≡ true) × (test (pin-of s) ≡ true))
   whence test t o h = ⊎-elim
-    (λ k. inr (k, sym (ap test (here t o k)) ∙ h))
-    (λ k. inl (sym (ap test (other t o k)) ∙ h))
-    (cases-bool (is-cell c t o))
+      (λ k. inr (k, sym (ap test (here t o k)) ∙ h))
+      (λ k. inl (sym (ap test (other t o k)) ∙ h))
+      (cases-bool (is-cell c t o))
 
   old : (y : Mark) → seeds ix (with-path pins path) T y ≡ true → seeds ix more T y ≡ true
   old (Fact t l) h = h
   old (Taken t o) h = let a = and-parts (ltb t T) (says-take (with-path pins path t o)) h in and-from _ _ (a .0) (kept says-take refl t o (a .1))
   old (LeftOut t o) h = let a = and-parts (ltb t T) (step-in (ix .closed) o || says-leave (with-path pins path t o)) h in
-    and-from _ _ (a .0) (⊎-elim (λ k. or-left _ _ k) (λ k. or-right _ _ (kept says-leave refl t o k)) (or-cases (step-in (ix .closed) o) (says-leave (with-path pins path t o)) (a .1)))
+      and-from _ _ (a .0) (⊎-elim (λ k. or-left _ _ k) (λ k. or-right _ _ (kept says-leave refl t o k)) (or-cases (step-in (ix .closed) o) (says-leave (with-path pins path t o)) (a .1)))
 
   own : (s′ : Side) → s ≡ s′ → seeds ix more T (mark-of s′ c) ≡ true
   own side.LeftOut q = and-from _ _ (lt-ltb (c .time) T inside) (or-right _ _ (ap says-leave (here (c .time) (c .step) (own-cell c)) ∙ ap (λ (x : Side). says-leave (pin-of x)) q))
@@ -96,16 +96,16 @@ module _ (ix : Index) (T : ℕ) (pins : Pins) (path : List Entry) (c : Cell) (s 
   only : (y : Mark) → seeds ix more T y ≡ true → (seeds ix (with-path pins path) T y ≡ true) ⊎ (y ≡ mark-of s c)
   only (Fact t l) h = inl h
   only (Taken t o) h = let a = and-parts (ltb t T) (says-take (more t o)) h in ⊎-elim
-    (λ k. inl (and-from _ _ (a .0) k))
-    (λ k. inr (let q = at-cell c t o (k .0) in sym (ap (λ (u : ℕ). Taken u o) (q .0)) ∙ sym (ap (λ (u : ℕ). Taken (c .time) u) (q .1)) ∙ take-of s c (k .1)))
-    (whence says-take t o (a .1))
+      (λ k. inl (and-from _ _ (a .0) k))
+      (λ k. inr (let q = at-cell c t o (k .0) in sym (ap (λ (u : ℕ). Taken u o) (q .0)) ∙ sym (ap (λ (u : ℕ). Taken (c .time) u) (q .1)) ∙ take-of s c (k .1)))
+      (whence says-take t o (a .1))
   only (LeftOut t o) h = let a = and-parts (ltb t T) (step-in (ix .closed) o || says-leave (more t o)) h in ⊎-elim
-    (λ k. inl (and-from _ _ (a .0) (or-left _ _ k)))
-    (λ k. ⊎-elim
+      (λ k. inl (and-from _ _ (a .0) (or-left _ _ k)))
+      (λ k. ⊎-elim
       (λ j. inl (and-from _ _ (a .0) (or-right _ _ j)))
       (λ j. inr (let q = at-cell c t o (j .0) in sym (ap (λ (u : ℕ). LeftOut u o) (q .0)) ∙ sym (ap (λ (u : ℕ). LeftOut (c .time) u) (q .1)) ∙ leave-of s c (j .1)))
       (whence says-leave t o k))
-    (or-cases (step-in (ix .closed) o) (says-leave (more t o)) (a .1))
+      (or-cases (step-in (ix .closed) o) (says-leave (more t o)) (a .1))
 
   pub one-more : OneMore (seeds ix (with-path pins path) T) (mark-of s c) (seeds ix (with-path pins (path ++ (record { cell = c; side = s } ∷ []))) T)
   unfolding e more

@@ -34,9 +34,9 @@ finds : (order : List Cell) (c : Cell) (p : ℕ) → p < length order → cell-a
 finds [] c p l h = absurd (omega arith)
 finds (x ∷ xs) c zero l h = here x xs c zero (subst (λ (d : Cell). is-cell x (d .time) (d .step) ≡ true) h (own-cell x))
 finds (x ∷ xs) c (suc p) l h = ⊎-elim
-  (λ k. here x xs c (suc p) k)
-  (λ k. there x xs c p k (finds xs c p (omega arith) h))
-  (cases-bool (is-cell x (c .time) (c .step)))
+    (λ k. here x xs c (suc p) k)
+    (λ k. there x xs c p k (finds xs c p (omega arith) h))
+    (cases-bool (is-cell x (c .time) (c .step)))
 
 module _ (T m : ℕ) (order : List Cell) (once : Each-once T m order) (room : T * m ≤ length order) where
   found : (c : Cell) → c .time < T → c .step < m → (find-cell order c < T * m) × (cell-at order (find-cell order c) ≡ c)
@@ -52,6 +52,6 @@ module _ (T m : ℕ) (order : List Cell) (once : Each-once T m order) (room : T 
     cell-below = λ k l. once .within k l;
     cell-of-place = λ c r q. found c r q .1;
     place-of-cell = λ k l.
-      let f = finds order (cell-at order k) k (omega arith) refl in
-      once .distinct (find-cell order (cell-at order k)) k (omega (arith, f .0)) l (f .1)
+        let f = finds order (cell-at order k) k (omega arith) refl in
+        once .distinct (find-cell order (cell-at order k)) k (omega (arith, f .0)) l (f .1);
   }

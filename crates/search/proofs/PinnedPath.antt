@@ -33,7 +33,7 @@ keeps-says pins c k t o = go (pins t o) refl
 says-keeps : (pins : Pins) (c : Cells) → ((t o : ℕ) → Says (pins t o) (c t o)) → Keeps pins c
 says-keeps pins c s = record {
   takes = λ t o e. subst (λ (x : Pin). Says x (c t o)) e (s t o);
-  leaves = λ t o e. subst (λ (x : Pin). Says x (c t o)) e (s t o)
+  leaves = λ t o e. subst (λ (x : Pin). Says x (c t o)) e (s t o);
 }
 
 side-says : (s : Side) (b : Bool) → b ≡ takes s → Says (pin-of s) b
@@ -61,11 +61,11 @@ keeps-with pins c path k a = says-keeps (with-path pins path) c (says path a)
     says : (path : List Entry) → Agrees c path → (t o : ℕ) → Says (with-path pins path t o) (c t o)
     says [] a t o = keeps-says pins c k t o
     says (e ∷ path) a t o = ⊎-elim
-      (λ h. subst (λ (x : Pin). Says x (c t o)) (sym (cond-true _ _ _ h))
+        (λ h. subst (λ (x : Pin). Says x (c t o)) (sym (cond-true _ _ _ h))
         (let q = at-cell (e .cell) t o h in
-         side-says (e .side) (c t o) (sym (ap (λ (u : ℕ). c u o) (q .0)) ∙ sym (ap (λ (u : ℕ). c (e .cell .time) u) (q .1)) ∙ a .0)))
-      (λ h. subst (λ (x : Pin). Says x (c t o)) (sym (cond-false _ _ _ h)) (says path (a .1) t o))
-      (cases-bool (is-cell (e .cell) t o))
+        side-says (e .side) (c t o) (sym (ap (λ (u : ℕ). c u o) (q .0)) ∙ sym (ap (λ (u : ℕ). c (e .cell .time) u) (q .1)) ∙ a .0)))
+        (λ h. subst (λ (x : Pin). Says x (c t o)) (sym (cond-false _ _ _ h)) (says path (a .1) t o))
+        (cases-bool (is-cell (e .cell) t o))
 
 -- a cell that no entry has is as the pins say
 pub with-absent : (pins : Pins) (path : List Entry) (d : Cell) → Absent d path → with-path pins path (d .time) (d .step) ≡ pins (d .time) (d .step)
@@ -87,15 +87,15 @@ with-keeps T m pins c (e ∷ path) f k =
 
     here : Follows c e
     here = says-side (e .side) (c (e .cell .time) (e .cell .step))
-      (subst (λ (x : Pin). Says x (c (e .cell .time) (e .cell .step))) (cond-true _ _ _ (own-cell (e .cell))) (all (e .cell .time) (e .cell .step)))
+        (subst (λ (x : Pin). Says x (c (e .cell .time) (e .cell .step))) (cond-true _ _ _ (own-cell (e .cell))) (all (e .cell .time) (e .cell .step)))
 
     free : with-path pins path (e .cell .time) (e .cell .step) ≡ unpinned
     free = with-absent pins path (e .cell) (f .3) ∙ f .2
 
     rest : (t o : ℕ) → Says (with-path pins path t o) (c t o)
     rest t o = ⊎-elim
-      (λ h. let q = at-cell (e .cell) t o h in
+        (λ h. let q = at-cell (e .cell) t o h in
         subst (λ (x : Pin). Says x (c t o))
-          (sym (sym (ap (λ (u : ℕ). with-path pins path u o) (q .0)) ∙ sym (ap (λ (u : ℕ). with-path pins path (e .cell .time) u) (q .1)) ∙ free)) tt)
-      (λ h. subst (λ (x : Pin). Says x (c t o)) (cond-false _ _ _ h) (all t o))
-      (cases-bool (is-cell (e .cell) t o))
+        (sym (sym (ap (λ (u : ℕ). with-path pins path u o) (q .0)) ∙ sym (ap (λ (u : ℕ). with-path pins path (e .cell .time) u) (q .1)) ∙ free)) tt)
+        (λ h. subst (λ (x : Pin). Says x (c t o)) (cond-false _ _ _ h) (all t o))
+        (cases-bool (is-cell (e .cell) t o))

@@ -21,5 +21,5 @@ newest xs ys zs n a b (Some x) fits same from t l h = (some, top-is xs ys n a fi
   where
     some : 0 < n
     some = ⊎-elim (λ k. k)
-      (λ k. absurd (omega (arith, ap length h, length-take a ys, length-append (take b zs) (x ∷ []))))
-      (cases-lt 0 n)
+        (λ k. absurd (omega (arith, ap length h, length-take a ys, length-append (take b zs) (x ∷ []))))
+        (cases-lt 0 n)

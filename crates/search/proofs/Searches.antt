@@ -44,7 +44,7 @@ lower-more m order from k low more j h = ⊎-elim (λ l. low j l) (λ l. more j 
 pub path-pushed : (order : List Cell) (ls ls′ : List Level) (n n′ : ℕ) (l : Level) → n < length ls → ls′ ≡ set ls n l → n′ ≡ n + 1
     → path-at order ls′ n′ ≡ path-at order ls n ++ (entry-of order l ∷ [])
 path-pushed order ls ls′ n n′ l h e q = path-more order ls ls′ n n′ l
-  (ap (λ (k : ℕ). take k ls′) q ∙ ap (take (n + 1)) e ∙ take-more-set ls n l h)
+    (ap (λ (k : ℕ). take k ls′) q ∙ ap (take (n + 1)) e ∙ take-more-set ls n l h)
 
 module _ (s : Search) where
   pub room : cells (asked s) ≤ 8192
@@ -63,7 +63,7 @@ module _ (s : Search) where
         inside = o .1;
         calm = calm;
         lower = all;
-        next = shown-next (problem-of (s .problem)) (kept-in (s .clauses)) (s .index) (s .length) (s .order) (pins-of (s .pins)) (s .root) (s .marks) (s .levels) (s .depth) (s .sound) calm k (o .1) (o .2) all
+        next = shown-next (problem-of (s .problem)) (kept-in (s .clauses)) (s .index) (s .length) (s .order) (pins-of (s .pins)) (s .root) (s .marks) (s .levels) (s .depth) (s .sound) calm k (o .1) (o .2) all;
       }
 
   pub whole-now : s .marks .conflict ≡ false → (from : ℕ) → Lower (s .marks) (s .order) from → Opens (s .marks) (s .order) (cells (asked s)) from None
@@ -93,7 +93,7 @@ module _ (s : Search) where
 
     pub fits-time : cell-at (s .order) place .time < s .marks .length
     fits-time = subst (λ (n : ℕ). cell-at (s .order) place .time < n) (sym long-now)
-      (last-fair (s .length) (steps (problem-of (s .problem))) (pins-of (s .pins)) (path-of s) (record { cell = cell-at (s .order) place; side = side }) (f .kept .fair) .0)
+        (last-fair (s .length) (steps (problem-of (s .problem))) (pins-of (s .pins)) (path-of s) (record { cell = cell-at (s .order) place; side = side }) (f .kept .fair) .0)
 
     pub chosen : (m′ : Marks) (ls′ : List Level) (n′ : ℕ) → ls′ ≡ set (s .levels) (s .depth) (record { place = place; side = side; trail = s .marks .len }) → n′ ≡ s .depth + 1
         → Decided (s .index) (s .marks) (mark-of side (cell-at (s .order) place)) m′
@@ -102,7 +102,7 @@ module _ (s : Search) where
         subst (λ (n : ℕ). ∥ Sound (problem-of (s .problem)) (kept-in (s .clauses)) (s .index) (s .length) (s .order) (pins-of (s .pins)) (s .root) m′ ls′ n ∥₁) (sym q)
         (subst (λ (ls : List Level). ∥ Sound (problem-of (s .problem)) (kept-in (s .clauses)) (s .index) (s .length) (s .order) (pins-of (s .pins)) (s .root) m′ ls (s .depth + 1) ∥₁) (sym e)
         (shown-choose (problem-of (s .problem)) (kept-in (s .clauses)) (s .index) (s .length) (s .order) (pins-of (s .pins)) (s .root) (s .marks) (s .levels) (s .depth) (s .sound)
-          m′ (record { place = place; side = side; trail = s .marks .len }) fits-room (f .inside) (f .calm) refl (f .lower) (f .kept) d))
+        m′ (record { place = place; side = side; trail = s .marks .len }) fits-room (f .inside) (f .calm) refl (f .lower) (f .kept) d))
 
   -- the newest choice
   module _ (l : Level) (some : 0 < s .depth) (top : l ≡ getD (s .levels) (s .depth - 1) no-level) where
@@ -111,7 +111,7 @@ module _ (s : Search) where
 
     pub newest-trail : l .trail ≤ s .marks .len
     newest-trail = subst (λ (x : Level). x .trail ≤ s .marks .len) (sym top)
-      (shown-trail (problem-of (s .problem)) (kept-in (s .clauses)) (s .index) (s .length) (s .order) (pins-of (s .pins)) (s .root) (s .marks) (s .levels) (s .depth) (s .sound) some deep)
+        (shown-trail (problem-of (s .problem)) (kept-in (s .clauses)) (s .index) (s .length) (s .order) (pins-of (s .pins)) (s .root) (s .marks) (s .levels) (s .depth) (s .sound) some deep)
 
     pub newest-path : path-of s ≡ path-at (s .order) (s .levels) (s .depth - 1) ++ (entry-of (s .order) l ∷ [])
     newest-path =
@@ -121,7 +121,7 @@ module _ (s : Search) where
 
     pub newest-placed : l .place < cells (asked s)
     newest-placed = subst (λ (x : Level). x .place < cells (asked s)) (sym top)
-      (shown-placed (problem-of (s .problem)) (kept-in (s .clauses)) (s .index) (s .length) (s .order) (pins-of (s .pins)) (s .root) (s .marks) (s .levels) (s .depth) (s .sound) (s .depth - 1) (omega arith))
+        (shown-placed (problem-of (s .problem)) (kept-in (s .clauses)) (s .index) (s .length) (s .order) (pins-of (s .pins)) (s .root) (s .marks) (s .levels) (s .depth) (s .sound) (s .depth - 1) (omega arith))
 
     module _ (m′ : Marks) (r : Retreated (s .marks) (l .trail) m′) where
       back : Retreated (s .marks) (getD (s .levels) (s .depth - 1) no-level .trail) m′
@@ -129,12 +129,12 @@ module _ (s : Search) where
 
       pub newest-lower : Lower m′ (s .order) (l .place)
       newest-lower = subst (λ (x : Level). Lower m′ (s .order) (x .place)) (sym top)
-        (shown-lower (problem-of (s .problem)) (kept-in (s .clauses)) (s .index) (s .length) (s .order) (pins-of (s .pins)) (s .root) (s .marks) (s .levels) (s .depth) (s .sound) some deep m′ back)
+          (shown-lower (problem-of (s .problem)) (kept-in (s .clauses)) (s .index) (s .length) (s .order) (pins-of (s .pins)) (s .root) (s .marks) (s .levels) (s .depth) (s .sound) some deep m′ back)
 
       pub undone : (ls′ : List Level) → ls′ ≡ s .levels
           → ∥ Sound (problem-of (s .problem)) (kept-in (s .clauses)) (s .index) (s .length) (s .order) (pins-of (s .pins)) (s .root) m′ ls′ (s .depth - 1) ∥₁
       undone ls′ e = subst (λ (ls : List Level). ∥ Sound (problem-of (s .problem)) (kept-in (s .clauses)) (s .index) (s .length) (s .order) (pins-of (s .pins)) (s .root) m′ ls (s .depth - 1) ∥₁) (sym e)
-        (shown-undo (problem-of (s .problem)) (kept-in (s .clauses)) (s .index) (s .length) (s .order) (pins-of (s .pins)) (s .root) (s .marks) (s .levels) (s .depth) (s .sound) some deep m′ back)
+          (shown-undo (problem-of (s .problem)) (kept-in (s .clauses)) (s .index) (s .length) (s .order) (pins-of (s .pins)) (s .root) (s .marks) (s .levels) (s .depth) (s .sound) some deep m′ back)
 
   -- the entries of the path, as the levels spell them
   pub path-size : length (path-of s) ≡ s .depth
@@ -146,5 +146,8 @@ module _ (s : Search) where
       sym (getD-map (entry-of (s .order)) (take (s .depth) (s .levels)) i no-level no-entry long ∙ ap (entry-of (s .order)) (getD-take (s .depth) (s .levels) i no-level h))
 
   pub place-small : (i : ℕ) → i < s .depth → getD (s .levels) i no-level .place < 8192
-  place-small i h = omega (arith, room,
-    shown-placed (problem-of (s .problem)) (kept-in (s .clauses)) (s .index) (s .length) (s .order) (pins-of (s .pins)) (s .root) (s .marks) (s .levels) (s .depth) (s .sound) i h)
+  place-small i h = omega (
+    arith,
+    room,
+    shown-placed (problem-of (s .problem)) (kept-in (s .clauses)) (s .index) (s .length) (s .order) (pins-of (s .pins)) (s .root) (s .marks) (s .levels) (s .depth) (s .sound) i h,
+  )

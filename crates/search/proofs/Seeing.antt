@@ -42,10 +42,10 @@ use Rattle.search.proofs.PinnedPath.{keeps-with, with-keeps, at-cell, own-cell
 pub path-in-range : (T m : ℕ) (pins : Pins) (path : List Entry) → InRange pins T m → Fair T m pins path → InRange (with-path pins path) T m
 path-in-range T m pins [] r f t o h = r t o h
 path-in-range T m pins (e ∷ path) r f t o h = ⊎-elim
-  (λ k. let q = at-cell (e .cell) t o k in (subst (λ (u : ℕ). u < T) (q .0) (f .0), subst (λ (u : ℕ). u < m) (q .1) (f .1)))
-  (λ k. path-in-range T m pins path r (f .4) t o
+    (λ k. let q = at-cell (e .cell) t o k in (subst (λ (u : ℕ). u < T) (q .0) (f .0), subst (λ (u : ℕ). u < m) (q .1) (f .1)))
+    (λ k. path-in-range T m pins path r (f .4) t o
     (⊎-elim (λ a. inl (sym (cond-false _ _ _ k) ∙ a)) (λ a. inr (sym (cond-false _ _ _ k) ∙ a)) h))
-  (cases-bool (is-cell (e .cell) t o))
+    (cases-bool (is-cell (e .cell) t o))
 
 pub no-pin : (s : Side) → pin-of s ≡ unpinned → ⊥
 no-pin side.LeftOut e = let z : _≡_ {A = ℕ} 0 1 = cc in omega arith
@@ -61,13 +61,12 @@ free-absent pins (e ∷ path) c h = go (free-absent pins path c) (cases-bool (is
         → (is-cell (e .cell) (c .time) (c .step) ≡ true) ⊎ (is-cell (e .cell) (c .time) (c .step) ≡ false) → Absent c (e ∷ path) × (pins (c .time) (c .step) ≡ unpinned)
     go later (inl k) = absurd (no-pin (e .side) (sym (cond-true _ _ _ k) ∙ h))
     go later (inr k) = let r = later (sym (cond-false _ _ _ k) ∙ h) in
-      (((λ q. both-ways (is-cell (e .cell) (c .time) (c .step)) k (subst (λ (d : Cell). is-cell (e .cell) (d .time) (d .step) ≡ true) q (own-cell (e .cell)))), r .0), r .1)
+        (((λ q. both-ways (is-cell (e .cell) (c .time) (c .step)) k (subst (λ (d : Cell). is-cell (e .cell) (d .time) (d .step) ≡ true) q (own-cell (e .cell)))), r .0), r .1)
 
 module _ (p : Problem) (V : Clauses) (ix : Index) (T : ℕ) (pins : Pins) (order : List Cell) (path : List Entry) (m : Marks)
     (well : WellFormed p) (kept : ClausesKept p V) (means : Means ix p V) (ordered : Ordered T (steps p) (places-in order))
     (range : InRange pins T (steps p)) (fair : Fair T (steps p) pins path) (long : m .length ≡ T)
     (rest : Rest ix (seeds ix (with-path pins path) T) m) where
-
   places : Pins
   places = with-path pins path
 
@@ -114,9 +113,9 @@ module _ (p : Problem) (V : Clauses) (ix : Index) (T : ℕ) (pins : Pins) (order
 
   pub told-decided : (d : Cell) → told m d ≡ true → Decided (Such p T pins) path d
   told-decided d h c c′ s s′ a a′ = ⊎-elim
-    (λ k. taken-on c s a (d .time) (d .step) k ∙ sym (taken-on c′ s′ a′ (d .time) (d .step) k))
-    (λ k. left-on c s a (d .time) (d .step) k ∙ sym (left-on c′ s′ a′ (d .time) (d .step) k))
-    (or-cases (on m (Taken (d .time) (d .step))) (on m (LeftOut (d .time) (d .step))) h)
+      (λ k. taken-on c s a (d .time) (d .step) k ∙ sym (taken-on c′ s′ a′ (d .time) (d .step) k))
+      (λ k. left-on c s a (d .time) (d .step) k ∙ sym (left-on c′ s′ a′ (d .time) (d .step) k))
+      (or-cases (on m (Taken (d .time) (d .step))) (on m (LeftOut (d .time) (d .step))) h)
 
   -- ---- the lowest cell without a mark
 
@@ -137,7 +136,7 @@ module _ (p : Problem) (V : Clauses) (ix : Index) (T : ℕ) (pins : Pins) (order
     free = apart .1;
     absent = apart .0;
     lower = λ d a b h. let q : places-in order .place d < k = subst (λ (n : ℕ). places-in order .place d < n) (ordered .place-of-cell k r) h in
-      subst (Decided (Such p T pins) path) (ordered .cell-of-place d a b) (told-decided (cell-at order (places-in order .place d)) (low (places-in order .place d) q))
+        subst (Decided (Such p T pins) path) (ordered .cell-of-place d a b) (told-decided (cell-at order (places-in order .place d)) (low (places-in order .place d) q));
   }
     where
       inside : (cell-at order k .time < T) × (cell-at order k .step < steps p)
@@ -164,7 +163,7 @@ module _ (p : Problem) (V : Clauses) (ix : Index) (T : ℕ) (pins : Pins) (order
 
     frame : Frame p T places (λ x. on m (encode x) ≡ true)
     frame = subst (λ (n : ℕ). Frame p n places (λ x. on m (encode x) ≡ true)) long
-      (rest-closed ix p places V (seeds ix places (m .length)) m means within exact calm (λ y h. h) .frame)
+        (rest-closed ix p places V (seeds ix places (m .length)) m means within exact calm (λ y h. h) .frame)
 
     plan : IsPlan p T (taken-by m p T) × Keeps places (taken-by m p T)
     plan = marks-plan p T places (λ x. on m (encode x)) well (λ t o e. ranged t o (inl e)) frame told-at agree
@@ -181,9 +180,9 @@ module _ (p : Problem) (V : Clauses) (ix : Index) (T : ℕ) (pins : Pins) (order
       such = record { plan = plan .0; keeps = keeps .0 };
       agrees = keeps .1;
       alone = λ c s a t o r q. ⊎-elim
-        (λ k. taken-on c s a t o k ∙ sym (found-at t o r q ∙ k))
-        (λ k. left-on c s a t o k ∙ sym (found-at t o r q ∙ none t o k (cases-bool (on m (Taken t o)))))
-        (told-at t o r q)
+          (λ k. taken-on c s a t o k ∙ sym (found-at t o r q ∙ k))
+          (λ k. left-on c s a t o k ∙ sym (found-at t o r q ∙ none t o k (cases-bool (on m (Taken t o)))))
+          (told-at t o r q);
     }
       where
         none : (t o : ℕ) → on m (LeftOut t o) ≡ true → (on m (Taken t o) ≡ true) ⊎ (on m (Taken t o) ≡ false) → on m (Taken t o) ≡ false

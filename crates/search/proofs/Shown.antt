@@ -41,25 +41,25 @@ module _ (p : Problem) (V : Clauses) (ix : Index) (T : ℕ) (order : List Cell) 
 
   pub shown-contradiction : m .conflict ≡ true → NoneAgrees (Such p T pins) (path-at order ls n)
   shown-contradiction h c w a = ∥∥₁-elim t ⊥-prop
-    (λ s. seen-contradiction p V ix T pins order (path-at order ls n) m (s .well) (s .largest .kept) (s .means) (s .ordered) (s .range) (s .kept .fair) (s .long) (s .rest) h c w a)
+      (λ s. seen-contradiction p V ix T pins order (path-at order ls n) m (s .well) (s .largest .kept) (s .means) (s .ordered) (s .range) (s .kept .fair) (s .long) (s .rest) h c w a)
 
   pub shown-next : m .conflict ≡ false → (k : ℕ) → k < T * steps p → Undecided m (cell-at order k) → Lower m order k
       → Next (Such p T pins) T (steps p) pins (places-in order) (path-at order ls n) (cell-at order k)
   shown-next calm k r u low = ∥∥₁-elim t (next-prop (Such p T pins) T (steps p) (path-at order ls n) pins (places-in order) (cell-at order k))
-    (λ s. seen-undecided p V ix T pins order (path-at order ls n) m (s .well) (s .largest .kept) (s .means) (s .ordered) (s .range) (s .kept .fair) (s .long) (s .rest) calm k r u low)
+      (λ s. seen-undecided p V ix T pins order (path-at order ls n) m (s .well) (s .largest .kept) (s .means) (s .ordered) (s .range) (s .kept .fair) (s .long) (s .rest) calm k r u low)
 
   pub shown-whole : m .conflict ≡ false → Lower m order (T * steps p) → Only (Such p T pins) T (steps p) (path-at order ls n) (taken-by m p T)
   shown-whole calm all = ∥∥₁-elim t (only-prop (Such p T pins) T (steps p) (path-at order ls n) (such-prop p T pins) (taken-by m p T))
-    (λ s. seen-whole p V ix T pins order (path-at order ls n) m (s .well) (s .largest .kept) (s .means) (s .ordered) (s .range) (s .kept .fair) (s .long) (s .rest) calm all)
+      (λ s. seen-whole p V ix T pins order (path-at order ls n) m (s .well) (s .largest .kept) (s .means) (s .ordered) (s .range) (s .kept .fair) (s .long) (s .rest) calm all)
 
   pub shown-ordered : Ordered T (steps p) (places-in order)
   shown-ordered = record {
     place-below = λ c r q. ∥∥₁-elim t le-prop (λ s. s .ordered .place-below c r q);
     cell-below = λ k h. (∥∥₁-elim t le-prop (λ s. s .ordered .cell-below k h .0), ∥∥₁-elim t le-prop (λ s. s .ordered .cell-below k h .1));
     cell-of-place = λ c r q. same-cells (cell-at order (places-in order .place c)) c
-      (∥∥₁-elim t (ℕ-set _ _) (λ s. ap (λ (d : Cell). d .time) (s .ordered .cell-of-place c r q)))
-      (∥∥₁-elim t (ℕ-set _ _) (λ s. ap (λ (d : Cell). d .step) (s .ordered .cell-of-place c r q)));
-    place-of-cell = λ k h. ∥∥₁-elim t (ℕ-set _ _) (λ s. s .ordered .place-of-cell k h)
+        (∥∥₁-elim t (ℕ-set _ _) (λ s. ap (λ (d : Cell). d .time) (s .ordered .cell-of-place c r q)))
+        (∥∥₁-elim t (ℕ-set _ _) (λ s. ap (λ (d : Cell). d .step) (s .ordered .cell-of-place c r q)));
+    place-of-cell = λ k h. ∥∥₁-elim t (ℕ-set _ _) (λ s. s .ordered .place-of-cell k h);
   }
 
   -- the one plan that agrees with the path is the first

@@ -48,7 +48,7 @@ module _ (S : Cells → Type 0) (T m : ℕ) (pins : Pins) (o : Places) where
   kept-front path more k = record {
     none-left = λ p s l. k .none-left p s (l .0, l .1, l .2 ++ more, ap (λ z. z ++ more) (l .3) ∙ append-assoc (l .0) (taken (l .1) ∷ l .2) more, l .4, l .5);
     fair = fair-front T m pins path more (k .fair);
-    lowest = λ before e behind q. k .lowest before e (behind ++ more) (ap (λ z. z ++ more) q ∙ append-assoc before (e ∷ behind) more)
+    lowest = λ before e behind q. k .lowest before e (behind ++ more) (ap (λ z. z ++ more) q ∙ append-assoc before (e ∷ behind) more);
   }
 
 -- the last entry of a fair path: in range, unpinned, and absent before it
@@ -58,7 +58,7 @@ LastFair T m pins path e = (e .cell .time < T) × (e .cell .step < m) × (pins (
 pub last-fair : (T m : ℕ) (pins : Pins) (path : List Entry) (e : Entry) → Fair T m pins (path ++ (e ∷ [])) → LastFair T m pins path e
 last-fair T m pins [] e f = (f .0, f .1, f .2, tt)
 last-fair T m pins (x ∷ path) e f = let r = last-fair T m pins path e (f .4) in
-  (r .0, r .1, r .2, ((λ q. not-end path (f .3) (sym q)), r .3))
+    (r .0, r .1, r .2, ((λ q. not-end path (f .3) (sym q)), r .3))
   where
     not-end : (path : List Entry) → Absent (x .cell) (path ++ (e ∷ [])) → e .cell ≡ x .cell → ⊥
     not-end [] a q = a .0 q
@@ -80,19 +80,25 @@ module _ (p : Problem) (V : Clauses) (ix : Index) (T : ℕ) (order : List Cell) 
     rooted = s .rooted;
     long = d .grows .same-length ∙ s .long;
     rest = subst (λ (path : List Entry). Rest ix (seeds ix (with-path pins path) T) m′) (sym path′)
-      (d .rest (seeds ix (with-path pins old) T) (seeds ix (with-path pins (old ++ (entry-of order l ∷ []))) T)
+        (d .rest (seeds ix (with-path pins old) T) (seeds ix (with-path pins (old ++ (entry-of order l ∷ []))) T)
         (one-more ix T pins old (cell-at order (l .place)) (l .side) (fair .0) (with-absent pins old (cell-at order (l .place)) (fair .3) ∙ fair .2))
         (s .rest));
-    levels = (m, calm, s .long, sym trail ∙ ap (λ (x : Level). x .trail) (sym same),
+    levels = (
+      m,
+      calm,
+      s .long,
+      sym trail ∙ ap (λ (x : Level). x .trail) (sym same),
       subst (λ (path : List Entry). Rest ix (seeds ix (with-path pins path) T) m) (sym (path-set order ls n n l (omega arith))) (s .rest),
-      subst (λ (x : Level). Lower m order (x .place)) (sym same) low, d .grows,
-      levels-set ix T pins order ls n l n m (omega arith) (s .levels));
+      subst (λ (x : Level). Lower m order (x .place)) (sym same) low,
+      d .grows,
+      levels-set ix T pins order ls n l n m (omega arith) (s .levels),
+    );
     placed = λ k h. ⊎-elim
-      (λ (e : k ≡ n). subst (λ (x : Level). x .place < T * steps p) (sym (ap (λ (i : ℕ). getD (set ls n l) i no-level) e ∙ same)) inside)
-      (λ (ne : k ≢ n). let off : getD (set ls n l) k no-level ≡ getD ls k no-level = rw getD-set-other in
+        (λ (e : k ≡ n). subst (λ (x : Level). x .place < T * steps p) (sym (ap (λ (i : ℕ). getD (set ls n l) i no-level) e ∙ same)) inside)
+        (λ (ne : k ≢ n). let off : getD (set ls n l) k no-level ≡ getD ls k no-level = rw getD-set-other in
         subst (λ (x : Level). x .place < T * steps p) (sym off) (s .placed k (omega arith)))
-      (cases-eq k n);
-    kept = subst (Kept (Such p T pins) T (steps p) pins (places-in order)) (sym path′) kept
+        (cases-eq k n);
+    kept = subst (Kept (Such p T pins) T (steps p) pins (places-in order)) (sym path′) kept;
   }
     where
       old : List Entry
@@ -138,7 +144,7 @@ module _ (p : Problem) (V : Clauses) (ix : Index) (T : ℕ) (order : List Cell) 
         levels = levels-grow ix T pins order ls n grown (s .levels .7);
         placed = λ k h. s .placed k (omega arith);
         kept = kept-front (Such p T pins) T (steps p) pins (places-in order) (path-at order ls n) (entry-of order (getD ls n no-level) ∷ [])
-          (subst (Kept (Such p T pins) T (steps p) pins (places-in order)) undo-path (s .kept))
+            (subst (Kept (Such p T pins) T (steps p) pins (places-in order)) undo-path (s .kept));
       }
 
       pub undo-lower : Lower m′ order (getD ls n no-level .place)
@@ -158,16 +164,16 @@ module _ (p : Problem) (V : Clauses) (ix : Index) (T : ℕ) (order : List Cell) 
     rest = rest;
     levels = tt;
     placed = λ k h. absurd (omega arith);
-    kept = kept-none (Such p T pins) T (steps p) pins (places-in order)
+    kept = kept-none (Such p T pins) T (steps p) pins (places-in order);
   }
 
   -- behind the newest choice: every cell up to and with its own has a mark
   pub beyond-lower : (m : Marks) (ls : List Level) (n : ℕ) → Sound p V ix T order pins root m ls (suc n) → n < length ls → m .conflict ≡ false
       → Lower m order (getD ls n no-level .place + 1)
   beyond-lower m ls n s room calm k h = ⊎-elim
-    (λ (q : k ≡ l .place). subst (λ (i : ℕ). told m (cell-at order i) ≡ true) (sym q) (own (l .side) refl))
-    (λ (ne : k ≢ l .place). lower-grows (s .levels .6) order (l .place) (s .levels .5) k (omega arith))
-    (cases-eq k (l .place))
+      (λ (q : k ≡ l .place). subst (λ (i : ℕ). told m (cell-at order i) ≡ true) (sym q) (own (l .side) refl))
+      (λ (ne : k ≢ l .place). lower-grows (s .levels .6) order (l .place) (s .levels .5) k (omega arith))
+      (cases-eq k (l .place))
     where
       l : Level
       l = getD ls n no-level
@@ -186,12 +192,12 @@ module _ (p : Problem) (V : Clauses) (ix : Index) (T : ℕ) (order : List Cell) 
 
       pinned : with-path pins (path-at order ls (suc n)) (c .time) (c .step) ≡ pin-of (l .side)
       pinned = ap (λ (z : List Entry). with-path pins z (c .time) (c .step)) whole
-        ∙ pinned-here pins path (entry-of order l) (c .time) (c .step) (own-cell c) (with-absent pins path c (fair .3) ∙ fair .2)
+          ∙ pinned-here pins path (entry-of order l) (c .time) (c .step) (own-cell c) (with-absent pins path c (fair .3) ∙ fair .2)
 
       marked : (x : Mark) → seeds ix (with-path pins (path-at order ls (suc n))) T x ≡ true → on m x ≡ true
       marked x q = s .rest .exact .complete calm x (λ M k z. z x q)
 
       own : (x : Side) → l .side ≡ x → told m c ≡ true
       own side.LeftOut q = or-right (on m (Taken (c .time) (c .step))) _ (marked (LeftOut (c .time) (c .step))
-        (and-from _ _ (lt-ltb (c .time) T (fair .0)) (or-right _ _ (ap says-leave (pinned ∙ ap pin-of q)))))
+          (and-from _ _ (lt-ltb (c .time) T (fair .0)) (or-right _ _ (ap says-leave (pinned ∙ ap pin-of q)))))
       own side.Taken q = or-left _ _ (marked (Taken (c .time) (c .step)) (and-from _ _ (lt-ltb (c .time) T (fair .0)) (ap says-take (pinned ∙ ap pin-of q))))

@@ -42,9 +42,9 @@ path-set order ls n k l h = ap (map (entry-of order)) (take-set-le n ls k l h)
 
 pub told-grows : {a b : Marks} → Grows a b → (c : Cell) → told a c ≡ true → told b c ≡ true
 told-grows {a} {b} g c h = ⊎-elim
-  (λ k. or-left _ _ (g .keeps (Taken (c .time) (c .step)) k))
-  (λ k. or-right (on b (Taken (c .time) (c .step))) _ (g .keeps (LeftOut (c .time) (c .step)) k))
-  (or-cases (on a (Taken (c .time) (c .step))) (on a (LeftOut (c .time) (c .step))) h)
+    (λ k. or-left _ _ (g .keeps (Taken (c .time) (c .step)) k))
+    (λ k. or-right (on b (Taken (c .time) (c .step))) _ (g .keeps (LeftOut (c .time) (c .step)) k))
+    (or-cases (on a (Taken (c .time) (c .step))) (on a (LeftOut (c .time) (c .step))) h)
 
 pub lower-grows : {a b : Marks} → Grows a b → (order : List Cell) (n : ℕ) → Lower a order n → Lower b order n
 lower-grows g order n low k h = told-grows g (cell-at order k) (low k h)
@@ -56,7 +56,7 @@ grows-back a b c calm g r = record {
   longer = omega (arith, r .shorter);
   prefix = λ i h. ap (λ (t : List Mark). mark-at t i) (r .same-trail) ∙ g .prefix i h;
   keeps = λ x h. r .back x ∙ in-trail-prefix (b .trail) (a .trail) (a .len) (g .prefix) x ∙ sym (a .listed x) ∙ h;
-  stuck = λ h. absurd (both-ways (a .conflict) calm h)
+  stuck = λ h. absurd (both-ways (a .conflict) calm h);
 }
 
 -- ---- the levels
@@ -71,8 +71,13 @@ module _ (ix : Index) (T : ℕ) (pins : Pins) (order : List Cell) where
   levels-set ls k l zero m h w = tt
   levels-set ls k l (suc n) m h w =
       let ne : n ≢ k = λ e. omega arith in
-      let same : getD (set ls k l) n no-level ≡ getD ls n no-level = rw getD-set-other in
-      (w .0, w .1, w .2, w .3 ∙ ap (λ (x : Level). x .trail) (sym same),
-       subst (λ (path : List Entry). Rest ix (seeds ix (with-path pins path) T) (w .0)) (sym (path-set order ls n k l (omega arith))) (w .4),
-       subst (λ (x : Level). Lower (w .0) order (x .place)) (sym same) (w .5), w .6,
-       levels-set ls k l n (w .0) (omega arith) (w .7))
+      let same : getD (set ls k l) n no-level ≡ getD ls n no-level = rw getD-set-other in (
+        w .0,
+        w .1,
+        w .2,
+        w .3 ∙ ap (λ (x : Level). x .trail) (sym same),
+        subst (λ (path : List Entry). Rest ix (seeds ix (with-path pins path) T) (w .0)) (sym (path-set order ls n k l (omega arith))) (w .4),
+        subst (λ (x : Level). Lower (w .0) order (x .place)) (sym same) (w .5),
+        w .6,
+        levels-set ls k l n (w .0) (omega arith) (w .7),
+      )

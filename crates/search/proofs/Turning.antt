@@ -46,23 +46,23 @@ module _ (s s′ : Search) (l : Level) (same : asked s′ ≡ asked s) (u : Undo
     calm = u .2;
     lower = u .3;
     kept = subst (λ (a : Ask). KeptFor a (path-of s′ ++ (record { cell = cell-at (a .order) (l .place); side = Taken } ∷ []))) (sym same)
-      (kept-turn (Wanted (asked s)) (s .length) (steps (problem-of (s .problem))) (asked s .pins) (places-in (s .order)) (path-of s′) (cell-at (s .order) (l .place))
-        (subst (KeptFor (asked s)) (is LeftOut q) (kept-now s)) (subst (NoneAgrees (Wanted (asked s))) (is LeftOut q) n))
+        (kept-turn (Wanted (asked s)) (s .length) (steps (problem-of (s .problem))) (asked s .pins) (places-in (s .order)) (path-of s′) (cell-at (s .order) (l .place))
+        (subst (KeptFor (asked s)) (is LeftOut q) (kept-now s)) (subst (NoneAgrees (Wanted (asked s))) (is LeftOut q) n));
   }
 
   pub turn-choice : (first last : Search) (behind : List Entry) → l .side ≡ LeftOut → path-of first ≡ path-of s ++ behind
       → path-of last ≡ path-of s′ ++ (choice-at s′ (l .place) Taken ∷ []) → Choice (path-of first) (path-of last)
   turn-choice first last behind q w t =
       let all : path-of first ≡ path-of s′ ++ (left (cell-at (s .order) (l .place)) ∷ behind)
-            = w ∙ ap (λ z. z ++ behind) (is LeftOut q) ∙ append-assoc (path-of s′) (left (cell-at (s .order) (l .place)) ∷ []) behind in
+      = w ∙ ap (λ z. z ++ behind) (is LeftOut q) ∙ append-assoc (path-of s′) (left (cell-at (s .order) (l .place)) ∷ []) behind in
       let end : path-of last ≡ path-of s′ ++ (taken (cell-at (s .order) (l .place)) ∷ [])
-            = t ∙ ap (λ (a : Ask). path-of s′ ++ (taken (cell-at (a .order) (l .place)) ∷ [])) same in
+      = t ∙ ap (λ (a : Ask). path-of s′ ++ (taken (cell-at (a .order) (l .place)) ∷ [])) same in
       subst₂ Choice (sym all) (sym end) (Choice.turns (path-of s′) (cell-at (s .order) (l .place)) behind)
 
   -- a choice that was taken, dropped
   pub drop-none : l .side ≡ Taken → NoneAgrees (Wanted (asked s)) (path-of s) → NoneAgrees (Wanted (asked s′)) (path-of s′)
   drop-none q n = subst (λ (a : Ask). NoneAgrees (Wanted a) (path-of s′)) (sym same)
-    (kept-pop (Wanted (asked s)) (s .length) (steps (problem-of (s .problem))) (asked s .pins) (places-in (s .order)) (path-of s′) (cell-at (s .order) (l .place))
+      (kept-pop (Wanted (asked s)) (s .length) (steps (problem-of (s .problem))) (asked s .pins) (places-in (s .order)) (path-of s′) (cell-at (s .order) (l .place))
       (subst (KeptFor (asked s)) (is Taken q) (kept-now s)) (subst (NoneAgrees (Wanted (asked s))) (is Taken q) n) .1)
 
 -- the lowest cell without a mark, added
@@ -71,7 +71,7 @@ add-fits s k h = record {
   inside = h .inside;
   calm = h .calm;
   lower = h .lower;
-  kept = kept-add (Wanted (asked s)) (s .length) (steps (problem-of (s .problem))) (asked s .pins) (places-in (s .order)) (path-of s) (cell-at (s .order) k) (kept-now s) (h .next)
+  kept = kept-add (Wanted (asked s)) (s .length) (steps (problem-of (s .problem))) (asked s .pins) (places-in (s .order)) (path-of s) (cell-at (s .order) k) (kept-now s) (h .next);
 }
 
 pub add-choice : (s s′ : Search) (k : ℕ) → path-of s′ ≡ path-of s ++ (choice-at s k LeftOut ∷ []) → Choice (path-of s) (path-of s′)
@@ -81,7 +81,7 @@ add-choice s s′ k e = subst (Choice (path-of s)) (sym e) (Choice.adds (path-of
 pub walk-on : (s₀ s s′ : Search) (g : ℕ) → asked s ≡ asked s₀ → Walk (s₀ .length) (steps (problem-of (s₀ .problem))) (asked s₀ .pins) g (path-of s₀) (path-of s)
     → Choice (path-of s) (path-of s′) → Walk (s₀ .length) (steps (problem-of (s₀ .problem))) (asked s₀ .pins) (g + 1) (path-of s₀) (path-of s′)
 walk-on s₀ s s′ g same w ch = walk-step (s₀ .length) (steps (problem-of (s₀ .problem))) (asked s₀ .pins) g (path-of s₀) (path-of s) (path-of s′) w
-  (subst (λ (a : Ask). Fair (a .length) (steps (a .problem)) (a .pins) (path-of s)) same (kept-now s .fair)) ch
+    (subst (λ (a : Ask). Fair (a .length) (steps (a .problem)) (a .pins) (path-of s)) same (kept-now s .fair)) ch
 
 -- the plan that the marks spelled, kept apart, is the first
 pub plan-found : (s₀ s s′ s″ : Search) → asked s ≡ asked s₀ → asked s′ ≡ asked s → asked s″ ≡ asked s′ → CellsOf (s′ .marks) (s″ .plan)

@@ -91,7 +91,7 @@ pub record Fits (s : Search) (k : ℕ) (side : Side) : Type 0 where
 abbrev pub Undone : Search → Option Level → Search → Type 0
 Undone s Nothing s′ = (path-of s ≡ []) × (path-of s′ ≡ [])
 Undone s (Some l) s′ = (path-of s ≡ path-of s′ ++ (entry-of (s .order) l ∷ []))
-  × (l .place < cells (asked s)) × (s′ .marks .conflict ≡ false) × Lower (s′ .marks) (s′ .order) (l .place)
+    × (l .place < cells (asked s)) × (s′ .marks .conflict ≡ false) × Lower (s′ .marks) (s′ .order) (l .place)
 
 -- one choice more was made by turning, or there is no wanted plan
 abbrev pub Turned : Search → Bool → Search → Type 0

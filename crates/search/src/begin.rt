@@ -7,6 +7,7 @@ ghost use Rattle.marks.specs.Pinning.{pins-of, pin-of};
 ghost use Rattle.marks.specs.Deciding.{Begun};
 ghost use Rattle.marks.specs.Cells.{CellsOf};
 ghost use Rattle.search.specs.Begins.{Opened, Asked, Repinned};
+use crate::tables::Search;
 use marks::cells::CellMarks;
 use marks::index::Index;
 use marks::pins::Pins;
@@ -18,7 +19,6 @@ use model::path::Side;
 use model::ranking::Ranking;
 use model::source::ProblemSource;
 use model::table::ProblemTable;
-use crate::tables::Search;
 
 // Works the marks out from the pins alone, and answers those of the cells.
 pub(crate) fn work_out(marks: &mut Marks, index: &Index, pins: &Pins, length: usize) -> CellMarks

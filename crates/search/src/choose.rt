@@ -6,10 +6,10 @@ ghost use lib.ListN.{length, getD, set};
 ghost use Rattle.std.specs.Options.{Cases};
 ghost use Rattle.search.specs.Levels.{cell-at, no-level};
 ghost use Rattle.search.specs.Looks.{asked, path-of, Fits, Undone};
-use model::path::Side;
-use sets::stack::Stack;
 use crate::level::Level;
 use crate::tables::Search;
+use model::path::Side;
+use sets::stack::Stack;
 
 // Puts a level behind the first `depth`, and says how many there are then.
 fn push(levels: &mut [Level], depth: usize, level: Level) -> usize

@@ -7,6 +7,9 @@ ghost use Rattle.model.specs.Held.{problem-of};
 ghost use Rattle.clauses.specs.Waiting.{kept-in};
 ghost use Rattle.marks.specs.Meaning.{Means};
 ghost use Rattle.search.specs.Begins.{Opened};
+use crate::begin::work_out;
+use crate::level::Level;
+use crate::tables::Search;
 use clauses::record::ClauseRecord;
 use marks::cells::CellMarks;
 use marks::index::Index;
@@ -15,9 +18,6 @@ use marks::tables::Marks;
 use model::cell::Cell;
 use model::path::Side;
 use model::table::ProblemTable;
-use crate::begin::work_out;
-use crate::level::Level;
-use crate::tables::Search;
 
 // The clause record of a table's problem.
 fn clauses_of(problem: &ProblemTable) -> ClauseRecord
@@ -47,7 +47,11 @@ fn no_order() -> [Cell; 8192]
 fn no_levels() -> [Level; 8192]
     ensures { λ r. ⌜ length r ≡ 8192 ⌝ }
 {
-    [Level { place: 0, side: Side::LeftOut, trail: 0 }; 8192]
+    [Level {
+        place: 0,
+        side: Side::LeftOut,
+        trail: 0,
+    }; 8192]
 }
 
 impl Search {

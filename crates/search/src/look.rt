@@ -8,9 +8,9 @@ ghost use Rattle.model.specs.Held.{problem-of};
 ghost use Rattle.marks.specs.Deciding.{Undecided};
 ghost use Rattle.search.specs.Levels.{cell-at, told, Lower};
 ghost use Rattle.search.specs.Looks.{asked, cells, Seen, Opens};
-use model::source::ProblemSource;
-use model::holds::TableSource;
 use crate::tables::Search;
+use model::holds::TableSource;
+use model::source::ProblemSource;
 
 // No plan agrees with the path, or just one does, or the cell at this place is to be chosen next.
 #[derive(Clone, Copy)]

@@ -5,10 +5,10 @@ ghost use mathlib.Core.Path.{_≡_};
 ghost use Rattle.model.specs.Firsts.{NoneAgrees};
 ghost use Rattle.marks.specs.Cells.{CellsOf};
 ghost use Rattle.search.specs.Looks.{asked, path-of, Wanted, Turned, Advanced, Ran};
-use model::answers::Outcome;
-use model::path::Side;
 use crate::look::Look;
 use crate::tables::Search;
+use model::answers::Outcome;
+use model::path::Side;
 
 impl Search {
     // Takes choices back until one that was left out is turned to taken; false where there is none.

@@ -6,6 +6,7 @@ ghost use Rattle.model.specs.Held.{problem-of};
 ghost use Rattle.clauses.specs.Waiting.{kept-in};
 ghost use Rattle.marks.specs.Pinning.{pins-of};
 ghost use Rattle.search.specs.Sound.{Sound};
+use crate::level::Level;
 use clauses::record::ClauseRecord;
 use marks::cells::CellMarks;
 use marks::index::Index;
@@ -13,7 +14,6 @@ use marks::pins::Pins;
 use marks::tables::Marks;
 use model::cell::Cell;
 use model::table::ProblemTable;
-use crate::level::Level;
 
 #[derive(Drop)]
 pub struct Search {

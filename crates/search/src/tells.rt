@@ -8,13 +8,13 @@ ghost use Rattle.model.specs.Plans.{unpinned};
 ghost use Rattle.model.specs.Held.{problem-of};
 ghost use Rattle.marks.specs.Pinning.{pins-of, pin-of};
 ghost use Rattle.search.specs.Looks.{path-of, no-entry};
+use crate::tables::Search;
 use model::cell::Cell;
 use model::holds::TableSource;
 use model::path::Entry;
 use model::path::Side;
 use model::source::ProblemSource;
 use sets::steps::StepSet;
-use crate::tables::Search;
 
 impl Search {
     // The length that is asked.
@@ -51,7 +51,10 @@ impl Search {
         }
         let level = self.levels[place];
         let cell = self.order[level.place as usize];
-        Some(Entry { cell, side: level.side })
+        Some(Entry {
+            cell,
+            side: level.side,
+        })
     }
 
     // By time, the steps that the plan found last takes.

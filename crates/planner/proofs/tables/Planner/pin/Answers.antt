@@ -23,12 +23,14 @@ returns c =
     record {
       number = search needs;
       kept = tt;
-      began = (record { stage = asked-stage (p .stage) _ n; outcome = refl; fresh = c .pin .ensures .fresh },
+      began = (
+        record { stage = asked-stage (p .stage) _ n; outcome = refl; fresh = c .pin .ensures .fresh },
         record {
           problem = c .pin .ensures .problem;
           length = c .pin .ensures .length;
           order = c .pin .ensures .order;
           here = pin-here (pins-of (p .search .pins)) (pins-of (new .pins)) d (pin-of (c .side-of .result)) t o (w .0) (w .1) (omega (arith, w .2, p .search .short)) (c .pin .ensures .pins t o) ∙ c .side-of .ensures;
-          elsewhere = λ u k h. pin-there (pins-of (p .search .pins)) (pins-of (new .pins)) d (pin-of (c .side-of .result)) t o u k (w .0) (w .1) h (c .pin .ensures .pins u k)
-        })
+          elsewhere = λ u k h. pin-there (pins-of (p .search .pins)) (pins-of (new .pins)) d (pin-of (c .side-of .result)) t o u k (w .0) (w .1) h (c .pin .ensures .pins u k);
+        },
+      );
     }

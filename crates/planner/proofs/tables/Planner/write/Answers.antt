@@ -12,4 +12,4 @@ returns-in-NoPlan c = writes-as (c .args .self .now) NoPlan (c .args .out .now) 
 
 pub returns-in-Plan : need.returns-in-Plan
 returns-in-Plan c = writes-plan (c .args .self .now) (c .args .out .now) (c .write-card .last .out) (c .write-card .result) (c .taken .result .now) (c .steps .result) (c .length .result) (c .in-Plan .is)
-  (c .taken .ensures) (c .steps .ensures .value) (c .length .ensures .value) (c .write-card .ensures)
+    (c .taken .ensures) (c .steps .ensures .value) (c .length .ensures .value) (c .write-card .ensures)

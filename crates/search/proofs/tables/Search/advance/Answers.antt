@@ -12,5 +12,5 @@ returns-in-Whole c = record { same = refl; advanced = first-now (c .args .self .
 pub returns-in-Undecided : need.returns-in-Undecided
 returns-in-Undecided c = record {
   same = c .choose .ensures .same;
-  advanced = add-choice (c .args .self .now) (c .choose .last .self) (c .in-Undecided .place) (c .choose .ensures .more)
+  advanced = add-choice (c .args .self .now) (c .choose .last .self) (c .in-Undecided .place) (c .choose .ensures .more);
 }

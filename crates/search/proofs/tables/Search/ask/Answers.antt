@@ -22,13 +22,26 @@ ghost-self g c =
     let small : T * m ≤ 8192 = mul-le-mul (c .pre) few in
     let long : length (c .copy-order .last .table) ≡ 8192 = omega (arith, c .copy-order .kept .table, s .«order_sized») in
     let true-at : c .copy-order .result ≡ true = c .copy-order .ensures .fits
-      ∙ fits-true T (c .steps .result) (length (s .order)) (c .pre) (omega (arith, few, c .steps .ensures))
-        (subst (λ (k : ℕ). T * k ≤ length (s .order)) (sym (c .steps .ensures)) (omega (arith, small, s .«order_sized»))) in
-    let once : Each-once T m (c .copy-order .last .table) = subst (λ (k : ℕ). Each-once T k (c .copy-order .last .table)) (c .steps .ensures) (c .copy-order .ensures .once true-at) in
-    (c .pre, (omega arith, (long, (s .«levels_sized»,
-      (asks-anew s T (c .copy-order .last .table) (pins-of (c .none-self .result)) (c .work-out-self .result) (c .work-out-self .last .marks)
-        (ordered T m (c .copy-order .last .table) once (omega (arith, small, long))) (range-none (pins-of (c .none-self .result)) T m (c .none-self .ensures))
-        (c .work-out-self .ensures .begun) (c .work-out-self .ensures .cells), tt)))))
+    ∙ fits-true T (c .steps .result) (length (s .order)) (c .pre) (omega (arith, few, c .steps .ensures))
+    (subst (λ (k : ℕ). T * k ≤ length (s .order)) (sym (c .steps .ensures)) (omega (arith, small, s .«order_sized»))) in
+    let once : Each-once T m (c .copy-order .last .table) = subst (λ (k : ℕ). Each-once T k (c .copy-order .last .table)) (c .steps .ensures) (c .copy-order .ensures .once true-at) in (
+      c .pre,
+      (
+        omega arith,
+        (
+          long,
+          (
+            s .«levels_sized»,
+            (
+              asks-anew s T (c .copy-order .last .table) (pins-of (c .none-self .result)) (c .work-out-self .result) (c .work-out-self .last .marks)
+                  (ordered T m (c .copy-order .last .table) once (omega (arith, small, long))) (range-none (pins-of (c .none-self .result)) T m (c .none-self .ensures))
+                  (c .work-out-self .ensures .begun) (c .work-out-self .ensures .cells),
+              tt,
+            ),
+          ),
+        ),
+      ),
+    )
 
 pub returns : need.returns
 returns g c =
@@ -39,7 +52,7 @@ returns g c =
     let few = few-rows (s .problem) in
     let small : T * m ≤ 8192 = mul-le-mul (c .pre) few in
     let true-at : c .copy-order .result ≡ true = c .copy-order .ensures .fits
-      ∙ fits-true T (c .steps .result) (length (s .order)) (c .pre) (omega (arith, few, c .steps .ensures))
-        (subst (λ (k : ℕ). T * k ≤ length (s .order)) (sym (c .steps .ensures)) (omega (arith, small, s .«order_sized»))) in
+    ∙ fits-true T (c .steps .result) (length (s .order)) (c .pre) (omega (arith, few, c .steps .ensures))
+    (subst (λ (k : ℕ). T * k ≤ length (s .order)) (sym (c .steps .ensures)) (omega (arith, small, s .«order_sized»))) in
     let copied : Copied o T m (s .order) (c .copy-order .last .table) = subst (λ (k : ℕ). Copied o T k (s .order) (c .copy-order .last .table)) (c .steps .ensures) (c .copy-order .ensures .copied true-at) in
     record { problem = refl; length = refl; ordered = copied .holds; free = c .none-self .ensures; fresh = refl }

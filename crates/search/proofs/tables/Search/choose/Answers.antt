@@ -15,12 +15,24 @@ pub ghost-self : need.ghost-self
 ghost-self c =
     let s = c .args .self .now in
     let here = fits-room s (c .args .place) (c .args .side) (c .pre) in
-    let after = c .push-depth .ensures .after in
-    (s .short, (omega (arith, here, c .push-depth .ensures .len, s .«levels_sized»), (s .«order_sized»,
-      (ap length after ∙ length-set (s .levels) (s .depth) _ ∙ s .«levels_sized»,
-      (chosen s (c .args .place) (c .args .side) (c .pre) (c .decide .last .self) (c .push-depth .last .levels) (c .push-depth .result)
-        (after ∙ ap (λ n. set (s .levels) (s .depth) (record { place = c .args .place; side = c .args .side; trail = n })) (c .count-trail .ensures))
-        (c .push-depth .ensures .len) (c .decide .ensures .decided (fits-time s (c .args .place) (c .args .side) (c .pre))), tt)))))
+    let after = c .push-depth .ensures .after in (
+      s .short,
+      (
+        omega (arith, here, c .push-depth .ensures .len, s .«levels_sized»),
+        (
+          s .«order_sized»,
+          (
+            ap length after ∙ length-set (s .levels) (s .depth) _ ∙ s .«levels_sized»,
+            (
+              chosen s (c .args .place) (c .args .side) (c .pre) (c .decide .last .self) (c .push-depth .last .levels) (c .push-depth .result)
+                  (after ∙ ap (λ n. set (s .levels) (s .depth) (record { place = c .args .place; side = c .args .side; trail = n })) (c .count-trail .ensures))
+                  (c .push-depth .ensures .len) (c .decide .ensures .decided (fits-time s (c .args .place) (c .args .side) (c .pre))),
+              tt,
+            ),
+          ),
+        ),
+      ),
+    )
 
 pub returns : need.returns
 returns c =
@@ -28,5 +40,5 @@ returns c =
     record {
       same = refl;
       more = path-pushed (s .order) (s .levels) (c .push-depth .last .levels) (s .depth) (c .push-depth .result) (record { place = c .args .place; side = c .args .side; trail = c .count-trail .result })
-        (fits-room s (c .args .place) (c .args .side) (c .pre)) (c .push-depth .ensures .after) (c .push-depth .ensures .len)
+          (fits-room s (c .args .place) (c .args .side) (c .pre)) (c .push-depth .ensures .after) (c .push-depth .ensures .len);
     }
