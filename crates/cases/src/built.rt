@@ -2,8 +2,8 @@
 #[cfg(test)]
 mod tests {
     use model::cell::Cell;
-    use model::cell::CellPartialEq;
     use model::cell::CellDebug;
+    use model::cell::CellPartialEq;
     use model::ranking::Ranking;
     use model::source::ProblemSource;
     use sheet::problem::SheetProblem;
@@ -37,14 +37,20 @@ mod tests {
         check(Forward.cell(6, 9, 53) == Cell { time: 5, step: 8 })?;
         check(ByStep.cell(6, 9, 6) == Cell { time: 0, step: 1 })?;
         check(Forward.cell(6, 9, 54) == zero && ByStep.cell(33, 9, 6) == zero)?;
-        check(Forward.place(6, 9, Cell { time: 5, step: 8 }) == 53 && ByStep.place(6, 9, Cell { time: 6, step: 8 }) == 0)
+        check(
+            Forward.place(6, 9, Cell { time: 5, step: 8 }) == 53
+                && ByStep.place(6, 9, Cell { time: 6, step: 8 }) == 0,
+        )
     }
 
     // Step x needs b, which nothing makes; step y is useless for any goal and stays open.
     #[test]
     fn filtered() -> Result<(), Fail> {
         let mut problem = SheetProblem::empty();
-        match read(b"MXP 1\nl 2\nf a\nf b\ns x\nn b\nm a\ns y\nm -a\n", &mut problem) {
+        match read(
+            b"MXP 1\nl 2\nf a\nf b\ns x\nn b\nm a\ns y\nm -a\n",
+            &mut problem,
+        ) {
             Ok(()) => {}
             Err(_) => return Err(Fail::new("declined")),
         }

@@ -2,11 +2,11 @@
 #[cfg(test)]
 mod tests {
     use model::answers::Decline;
-    use model::answers::Outcome;
-    use model::answers::DeclinePartialEq;
     use model::answers::DeclineDebug;
-    use model::answers::OutcomePartialEq;
+    use model::answers::DeclinePartialEq;
+    use model::answers::Outcome;
     use model::answers::OutcomeDebug;
+    use model::answers::OutcomePartialEq;
     use planner::tables::Planner;
     use sources::by_step::ByStep;
     use sources::by_step::ByStepRanking;
