@@ -1,4 +1,5 @@
 // From a job sheet's bytes to the bytes that answer it: the job card, or the fault line of a sheet that is declined.
+ghost use Rattle.jobs.specs.Answering.{Answered};
 use model::answers::Decline;
 use model::answers::Outcome;
 use planner::tables::Planner;
@@ -38,7 +39,9 @@ fn plan(planner: &mut Planner, problem: SheetProblem, out: &mut [u8]) -> Result<
 }
 
 // Answers a sheet: writes its job card, or the fault line where it is declined, and says how many bytes that is.
-pub fn answer(planner: &mut Planner, bytes: &[u8], out: &mut [u8]) -> Result<usize, Decline> {
+pub fn answer(planner: &mut Planner, bytes: &[u8], out: &mut [u8]) -> Result<usize, Decline>
+    ensures { λ r. ⌜ Answered (now (bytes .entry)) (now (out .entry)) r (now (out .exit)) ⌝ }
+{
     let mut problem = SheetProblem::empty();
     match read(bytes, &mut problem) {
         Ok(()) => plan(planner, problem, out),
