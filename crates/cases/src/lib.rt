@@ -1,6 +1,8 @@
 // Sheets with the answers that they must get, run through the whole planner and compared.
 mod built;
 mod calls;
+mod kept;
+mod marked;
 
 #[cfg(test)]
 mod tests {
