@@ -49,6 +49,26 @@ fn steps() -> Result<(), Fail> {
     check_eq(set.intersects(StepSet::empty()), false)
 }
 
+#[test]
+fn steps_at_the_edges_of_words() -> Result<(), Fail> {
+    let mut full = StepSet::empty();
+    for k in 0..=255 {
+        full.insert(k);
+    }
+    let edges = [0, 63, 64, 127, 128, 255];
+    for k in edges {
+        let mut rest = full;
+        rest.remove(k);
+        check_eq(full.contains(k), true)?;
+        check_eq(full.next_from(k as usize), Some(k as usize))?;
+        check_eq(rest.contains(k), false)?;
+        check_eq(full.minus(rest).only(), Some(k))?;
+        check_eq(full.subset(rest), false)?;
+    }
+    check_eq(full.is_empty(), false)?;
+    check_eq(full.minus(full).is_empty(), true)
+}
+
 #[derive(Clone, Copy)]
 struct Entry {
     level: u8,
