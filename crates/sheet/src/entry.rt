@@ -73,7 +73,7 @@ pub fn first_match<E: Entry>(entries: &[E], name: &[u8]) -> Option<usize>
 }
 
 // Puts one record more behind the first `count` and answers how many there are then, or refuses where the list is full.
-pub fn append<E: Entry + Copy>(table: &mut [E], count: usize, e: E) -> Option<usize>
+pub(crate) fn append<E: Entry + Copy>(table: &mut [E], count: usize, e: E) -> Option<usize>
     requires { ⌜ length (now table) ≡ limit ⌝ }
     ensures { λ r. ⌜ BySome r ((limit ≤ count) × (now (table .exit) ≡ now (table .entry))) (λ n. (count < limit) × (n ≡ count + 1) × (now (table .exit) ≡ set (now (table .entry)) count e)) ⌝ }
 {

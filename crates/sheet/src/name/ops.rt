@@ -19,7 +19,7 @@ impl Name {
     }
 
     // The name with these bytes, of which there are at most 15.
-    pub fn new(s: &[u8]) -> Name
+    pub(crate) fn new(s: &[u8]) -> Name
         requires { ⌜ length (now s) ≤ 15 ⌝ }
         ensures { λ r. ⌜ nameBytes r ≡ now (s .entry) ⌝ }
     {
