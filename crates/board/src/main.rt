@@ -1,4 +1,6 @@
 // `board`: reads one command a line from standard input and prints one answer each, over the planner's calls.
+#![tactic(auto)]
+
 use crate::answer::{Board, answer};
 use std::alloc::Global;
 use std::io::{BufRead, BufReader};

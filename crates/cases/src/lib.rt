@@ -1,4 +1,6 @@
 // Sheets with the answers that they must get, run through the whole planner and compared.
+#![tactic(auto)]
+
 mod built;
 mod calls;
 mod kept;

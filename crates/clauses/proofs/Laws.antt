@@ -1,6 +1,6 @@
 -- The laws of a table of pairs.
 use Rattle.std.proofs.Common.{◌≡◌, ℕ, zero, suc, ◌+◌, ◌/◌, ◌%◌, ◌<◌, ◌≤◌, Bool, true, false, cond, not, ◌&&◌, ◌||◌, eqb, ltb, ◌⊎◌, List, [], ◌∷◌, length, get_or, set, replicate, sym, refl, ap, ◌∙◌, subst, ap₂, inl, inr, ⊎_elim, arith, get_or-set_other, get_or-set_same}
-use Rattle.std.proofs.lemmas.Bool.{cases_eq, cases_lt, eq-eqb, ne_eqb, both_ways, or_right, and_from, and_left, and_parts, lt-ltb, ltb-true, cond_true, cond-false}
+use Rattle.std.proofs.lemmas.Bool.{cases_eq, cases_lt, eq-eqb, ne_eqb, both_ways, or_right, and_from, and_left, and_parts, lt-ltb, ltb-true, cond-true, cond-false}
 use Rattle.std.proofs.lemmas.Bool.Decides.{nat_tests}
 use Rattle.sets.specs.Literals.{Literal, pos, neg, fact, code, lit}
 use Rattle.model.specs.Problems.{Problem, value, start_state}
@@ -143,7 +143,7 @@ put_row xs a s h k l = go (cases_eq (code k) a)
         → lit_in (get_or (set xs a s) (code k) no_literals) l ≡ cond (eqb (code k) a) (lit_in s l) (lit_in (get_or xs (code k) no_literals) l)
     go (inl e) =
         let same : get_or (set xs a s) (code k) no_literals ≡ s = ap (λ (n : ℕ). get_or (set xs a s) n no_literals) e ∙ rw get_or-set_same in
-        ap (λ (t : LiteralSet). lit_in t l) same ∙ sym (cond_true (eqb (code k) a) (lit_in s l) (lit_in (get_or xs (code k) no_literals) l) (eq-eqb (code k) a e))
+        ap (λ (t : LiteralSet). lit_in t l) same ∙ sym (cond-true (eqb (code k) a) (lit_in s l) (lit_in (get_or xs (code k) no_literals) l) (eq-eqb (code k) a e))
     go (inr n) =
         let other : get_or (set xs a s) (code k) no_literals ≡ get_or xs (code k) no_literals = rw get_or-set_other in
         ap (λ (t : LiteralSet). lit_in t l) other ∙ sym (cond-false (eqb (code k) a) (lit_in s l) (lit_in (get_or xs (code k) no_literals) l) (ne_eqb (code k) a n))
@@ -183,7 +183,7 @@ module _ (p : Problem) (few : p.facts ≤ 64) (all first : LiteralSet)
       go : (f : Bool) → lit_in first k ≡ f → (value (start_state p) k ≡ true) ⊎ (value (start_state p) x ≡ true) → cond f (lit_in all x) (cond (lit_in all k) (lit_in first x) false) ≡ true
       go true e s = all_x
       go false e (inl h) = absurd (both_ways (lit_in first k) e (in-first k ∙ and_from _ _ (lt-ltb (fact k) p.facts lk) h))
-      go false e (inr h) = cond_true (lit_in all k) (lit_in first x) false all_k ∙ in-first x ∙ and_from _ _ (lt-ltb (fact x) p.facts lx) h
+      go false e (inr h) = cond-true (lit_in all k) (lit_in first x) false all_k ∙ in-first x ∙ and_from _ _ (lt-ltb (fact x) p.facts lx) h
 
   code_narrow : (k : Literal) → fact k < 64 → code k < 128
   unfolding code

@@ -1,4 +1,6 @@
 // The clause record: the pairs of literals of which at least one holds in every state that a problem's steps can bring about.
+#![tactic(auto)]
+
 pub mod asking;
 mod making;
 pub mod pairs;

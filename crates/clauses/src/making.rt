@@ -121,8 +121,8 @@ impl ClauseRecord {
 
     // The record of the problem that a source means.
     pub fn of<S: ProblemSource>(source: &S) -> ClauseRecord
-        ensures facts { result.facts ≡ (meaning source.now).facts }
-        ensures largest { Largest (meaning source.now) (kept_in result) }
+        ensures facts { result.facts ≡ (S.meaning source.now).facts }
+        ensures largest { Largest (S.meaning source.now) (kept_in result) }
     {
         let table = ProblemTable::of(source);
         let mut record = ClauseRecord::empty();

@@ -1,6 +1,6 @@
 -- The marks that are forced for one meter at length 6, by a list of rule applications.
 use Rattle.std.proofs.Common.{◌≡◌, ℕ, ◌<◌, Bool, true, false, cond, not, ◌&&◌, ◌||◌, List, [], ◌∷◌, sym, refl, ◌∙◌, ⊎_elim, arith}
-use Rattle.std.proofs.lemmas.Bool.{both_ways, or_cases, cond_true, cond-false}
+use Rattle.std.proofs.lemmas.Bool.{both_ways, or_cases, cond-true, cond-false}
 use Rattle.sets.specs.Has.{has}
 use Rattle.sets.specs.Literals.{pos, neg}
 use Rattle.sets.specs.Sets.{fact_in, lit_in, with_fact, with_literal}
@@ -59,7 +59,7 @@ module _ (V : Clauses) (M : Mark → Bool) (closed : Closed (water_line 1) 6 no_
   takes t o h =
       let w = taking_within 9 forced_times refl t o h in
       let d = told t o w.0 w.1 in
-      d.1 (taken t o) (sym (cond_true (taking forced_times t o) (marked? (taken t o) d.0) (taking undecided_times t o || marked? (left_out t o) d.0) h) ∙ d.2)
+      d.1 (taken t o) (sym (cond-true (taking forced_times t o) (marked? (taken t o) d.0) (taking undecided_times t o || marked? (left_out t o) d.0) h) ∙ d.2)
 
   leaves : (t o : ℕ) → t < 6 → o < 9 → LeftOut (taking forced_times) t o → LeftOut (taking undecided_times) t o → M (left_out t o) ≡ true
   leaves t o r q h k =

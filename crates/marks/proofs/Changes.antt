@@ -1,7 +1,7 @@
 -- One member more or less in one set of a table, and one entry more or less on a stack.
 use Rattle.std.proofs.Common.{◌≡◌, ℕ, ◌+◌, ◌-◌, ◌<◌, ◌≤◌, min, Bool, true, false, cond, not, ◌&&◌, ◌||◌, eqb, ltb, List, [], ◌∷◌, ◌++◌, length, get_or, take, set, sym, refl, ap, ◌∙◌, subst, ap₂, ⊎_elim, arith, length-take-le, get_or-set_other, get_or-take, get_or-set_same}
 use lib.Seq.{get_or_at}
-use Rattle.std.proofs.lemmas.Bool.{cases_eq, ne_eqb, lt-ltb, cond_true}
+use Rattle.std.proofs.lemmas.Bool.{cases_eq, ne_eqb, lt-ltb, cond-true}
 use Rattle.std.proofs.lemmas.Bool.Decides.{nat_tests}
 
 pub and_true : (b : Bool) → (b && true) ≡ b
@@ -41,8 +41,8 @@ module _ {A : Type 0} (xs ys : List A) (n a : ℕ) (fits : n ≤ length xs) (sam
       → (zs ≡ set xs n x) × (b ≡ n + 1)
   pushed zs b ok x h f t l =
       let yes : ok ≡ true = f ∙ ap₂ ltb resumed (ap length same) ∙ lt-ltb n (length xs) h in (
-        t ∙ cond_true ok (set ys a x) ys yes ∙ ap₂ (λ (q : List A) (k : ℕ). set q k x) same resumed,
-        l ∙ cond_true ok (a + 1) a yes ∙ ap (λ (k : ℕ). k + 1) resumed,
+        t ∙ cond-true ok (set ys a x) ys yes ∙ ap₂ (λ (q : List A) (k : ℕ). set q k x) same resumed,
+        l ∙ cond-true ok (a + 1) a yes ∙ ap (λ (k : ℕ). k + 1) resumed,
       )
 
   pub top_is : (zs : List A) (b : ℕ) (x d : A) → 0 < n → zs ≡ ys → b ≡ a - 1 → take a ys ≡ take b zs ++ x ∷ [] → x ≡ get_or xs (n - 1) d

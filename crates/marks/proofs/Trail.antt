@@ -1,6 +1,6 @@
 -- The trail: what one more mark does to it, and that it fits its table. Assumes nothing.
 use Rattle.std.proofs.Common.{◌≡◌, ℕ, zero, suc, ◌+◌, ◌-◌, ◌*◌, ◌/◌, ◌%◌, ◌<◌, ◌≤◌, Bool, true, false, cond, not, ◌&&◌, ◌||◌, eqb, ◌≢◌, ◌⊎◌, List, length, set, sym, refl, ap, ◌∙◌, subst, ap₂, inl, inr, ⊎_elim, suc-le-suc, zero-le, add-one, arith, get_or-set_other, get_or-set_same}
-use Rattle.std.proofs.lemmas.Bool.{both_ways, cases_Bool, cases_eq, cases_order, and_parts, and_from, or_cases, or_left, or_right, eqb-true, eq-eqb, ne_eqb, lt-ltb, ltb-true, leb-true, cond_true, cond-false}
+use Rattle.std.proofs.lemmas.Bool.{both_ways, cases_Bool, cases_eq, cases_order, and_parts, and_from, or_cases, or_left, or_right, eqb-true, eq-eqb, ne_eqb, lt-ltb, ltb-true, leb-true, cond-true, cond-false}
 use Rattle.sets.specs.Literals.{Literal, lit, code, opposite}
 use Rattle.sets.proofs.Literals.{lit_even, lit_odd, code_lit}
 use Rattle.marks.specs.declared.mark.Mark.{Mark}
@@ -16,7 +16,7 @@ module _ (N m : ℕ) (s : ℕ → ℕ) (below : (i : ℕ) → i < suc m → s i 
 
   moved_at : (j : ℕ) → s j ≡ N → moved j ≡ s m
   unfolding moved
-  moved_at j e = cond_true (eqb (s j) N) (s m) (s j) (eq-eqb (s j) N e)
+  moved_at j e = cond-true (eqb (s j) N) (s m) (s j) (eq-eqb (s j) N e)
 
   moved_off : (j : ℕ) → (s j ≡ N → ⊥) → moved j ≡ s j
   unfolding moved
@@ -182,7 +182,7 @@ module _ (T : ℕ) (r : List Mark) (n : ℕ) (x : Mark) (short : T ≤ 32) (ok :
 
   slots_at : slots n ≡ slot x
   unfolding slots
-  slots_at = cond_true _ _ _ (eq-eqb n n refl)
+  slots_at = cond-true _ _ _ (eq-eqb n n refl)
 
   slots_below : (i : ℕ) → i < n → slots i ≡ slot (mark_at r i)
   unfolding slots

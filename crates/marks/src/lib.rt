@@ -1,4 +1,6 @@
 // Marks: what a problem, its pins and its clauses force of each fact and cell, worked out and taken back.
+#![tactic(auto)]
+
 pub mod begin;
 pub mod build;
 pub mod cells;

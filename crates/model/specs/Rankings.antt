@@ -48,7 +48,7 @@ pub record Sofar (o : Order) (times steps n : ℕ) (before after : List Cell) : 
   pub beyond : (p : ℕ) → n ≤ p → slice_index_or after p (cell_of 0 0) ≡ slice_index_or before p (cell_of 0 0)
 
 -- the first places of the table hold every cell, each once
-pub record Each_once (times steps : ℕ) (table : List Cell) : Type 0 where
+pub record EachOnce (times steps : ℕ) (table : List Cell) : Type 0 where
   pub within : (p : ℕ) → p < times * steps → ((get_or table p (cell_of 0 0)).time < times) × ((get_or table p (cell_of 0 0)).step < steps)
   pub distinct : (p q : ℕ) → p < times * steps → q < times * steps → slice_index_or table p (cell_of 0 0) ≡ slice_index_or table q (cell_of 0 0) → p ≡ q
   pub complete : (c : Cell) → c.time < times → c.step < steps → (p : ℕ) × (p < times * steps) × (slice_index_or table p (cell_of 0 0) ≡ c)

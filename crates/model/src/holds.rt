@@ -11,7 +11,7 @@ use sets::facts::{FactSet, LiteralSet};
 
 // Copies the steps of a source to the front of the table.
 fn copy_steps<S: ProblemSource>(source: &S, table: &mut [Step; 256])
-    ensures { take (steps (meaning source.now)) table.new ≡ (meaning source.now).rows }
+    ensures { take (steps (S.meaning source.now)) table.new ≡ (S.meaning source.now).rows }
 {
     for o in 0..source.steps() {
         table[o] = source.step(o);
@@ -21,7 +21,7 @@ fn copy_steps<S: ProblemSource>(source: &S, table: &mut [Step; 256])
 impl ProblemTable {
     // The problem that a source means.
     pub fn of<S: ProblemSource>(source: &S) -> ProblemTable
-        ensures { problem_of result ≡ meaning source.now }
+        ensures { problem_of result ≡ S.meaning source.now }
     {
         let mut steps = [Step::closed(); 256];
         copy_steps(source, &mut steps);

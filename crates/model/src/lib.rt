@@ -1,4 +1,6 @@
 // The words of planning: problems and what they mean, plans, rankings, marks, clauses and paths, and the theorems about them.
+#![tactic(auto)]
+
 pub mod answers;
 pub mod cell;
 pub mod holds;

@@ -3,7 +3,7 @@ use Rattle.std.proofs.Common.{◌≡◌, ℕ, zero, suc, ◌+◌, ◌*◌, ◌<�
 use native.Mathlib.Nat.{ℕ_set}
 use mathlib.Core.Logic.{∥∥₁_elim, ∥∥₁_map}
 use mathlib.Core.HLevel.{⊥_prop}
-use Rattle.std.proofs.lemmas.Bool.{and_from, and_parts, lt-ltb, eq-eqb, eqb-true, cases_Bool, cond_true, cond-false}
+use Rattle.std.proofs.lemmas.Bool.{and_from, and_parts, lt-ltb, eq-eqb, eqb-true, cases_Bool, cond-true, cond-false}
 use Rattle.model.specs.declared.cell.Cell.{Cell}
 use Rattle.model.specs.declared.answers.Decline.{Decline}
 use Rattle.model.specs.declared.answers.Decline.TheVariants.{Unopened, Unasked}
@@ -82,7 +82,7 @@ plan_card s = card_same (taken_in s.plan.taken) (plan_of s) (steps (problem_of s
 -- the cell that was pinned, and the others
 pub pin_here : (pins new : Pins) (c : Cell) (pin : Pin) (t o : ℕ) → c.time ≡ t → c.step ≡ o → t < 32
     → new t o ≡ with_pin pins c pin t o → new t o ≡ pin
-pin_here pins new c pin t o a b l h = h ∙ cond_true _ _ _ (and_from _ _ (lt-ltb c.time 32 (omega arith)) (and_from _ _ (eq-eqb c.time t a) (eq-eqb c.step o b)))
+pin_here pins new c pin t o a b l h = h ∙ cond-true _ _ _ (and_from _ _ (lt-ltb c.time 32 (omega arith)) (and_from _ _ (eq-eqb c.time t a) (eq-eqb c.step o b)))
 
 pub pin_there : (pins new : Pins) (c : Cell) (pin : Pin) (t o u k : ℕ) → c.time ≡ t → c.step ≡ o → ((u ≡ t) × (k ≡ o) → ⊥)
     → new u k ≡ with_pin pins c pin u k → new u k ≡ pins u k

@@ -41,8 +41,8 @@ impl Planner {
     // Copies a source's problem, and forgets any ask.
     pub fn open<S: ProblemSource>(&mut self, source: &S)
         ensures stage { self.new.stage ≡ Stage.Opened }
-        ensures opened { OpenedOver (meaning source.now) self.new.search }
-        ensures obeys { Obeys self.old (open_call (meaning source.now)) self.new }
+        ensures opened { OpenedOver (S.meaning source.now) self.new.search }
+        ensures obeys { Obeys self.old (open_call (S.meaning source.now)) self.new }
     {
         self.search.open(source);
         self.stage = Stage::Opened;
@@ -76,8 +76,8 @@ impl Planner {
     pub fn ask<R: Ranking>(&mut self, length: usize, ranking: &R) -> Result<(), Decline>
         ensures number { declined result ≡ ask_declines self.old length }
         ensures kept { OnErr result (self.new ≡ self.old) }
-        ensures began { OnOk result (Began self.new × AskedFor self.old.search length (order ranking.now) self.new.search) }
-        ensures obeys { Obeys self.old (ask_call length (order ranking.now) (reply (λ u. u) result)) self.new }
+        ensures began { OnOk result (Began self.new × AskedFor self.old.search length (R.order ranking.now) self.new.search) }
+        ensures obeys { Obeys self.old (ask_call length (R.order ranking.now) (reply (λ u. u) result)) self.new }
     {
         self.opened()?;
         if length > 32 {

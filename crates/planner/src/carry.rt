@@ -66,7 +66,7 @@ impl Planner {
         ranking: &R,
         out: &mut [u8],
     ) -> Answer
-        ensures obeys { Obeys self.old (event_of (meaning source.now) (order ranking.now) call result out.old out.new) self.new }
+        ensures obeys { Obeys self.old (event_of (S.meaning source.now) (R.order ranking.now) call result out.old out.new) self.new }
         ensures same { writes call ≡ false → out.new ≡ out.old }
     {
         match call {
@@ -94,7 +94,7 @@ impl Planner {
         out: &mut [u8],
     ) -> usize
         ensures count { result ≡ min (length calls.now) (length answers.old) }
-        ensures carried { CarriedOut (meaning source.now) (order ranking.now) self.old (take result calls.now) (take result answers.new) out.old self.new out.new }
+        ensures carried { CarriedOut (S.meaning source.now) (R.order ranking.now) self.old (take result calls.now) (take result answers.new) out.old self.new out.new }
         ensures beyond { drop result answers.new ≡ drop result answers.old }
     {
         let count = calls.len().min(answers.len());

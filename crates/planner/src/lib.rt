@@ -1,4 +1,6 @@
 // The planner: from a problem and a length to the first plan in a ranking, by the calls that its users make.
+#![tactic(auto)]
+
 pub mod call;
 pub mod calls;
 pub mod carry;

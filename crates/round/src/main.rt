@@ -1,4 +1,6 @@
 // `round`: reads a job sheet from standard input and prints its job card, or why the sheet is declined.
+#![tactic(auto)]
+
 ghost use Rattle.std.specs.Prelude.{◌≤◌, length, IfOk};
 
 use anyhow::anyhow;

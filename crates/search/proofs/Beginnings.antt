@@ -5,7 +5,7 @@ use native.Mathlib.Bridge.{le_prop}
 use Rattle.sets.specs.Literals.{Literal, lit, code}
 use Rattle.sets.specs.Sets.{lit_in, no_literals}
 use Rattle.sets.specs.declared.facts.LiteralSet.{LiteralSet}
-use Rattle.std.proofs.lemmas.Bool.{cases_Bool, and_parts, and_from, cond_true, cond-false, le-leb}
+use Rattle.std.proofs.lemmas.Bool.{cases_Bool, and_parts, and_from, cond-true, cond-false, le-leb}
 use Rattle.model.specs.declared.cell.Cell.{Cell}
 use Rattle.model.specs.declared.table.ProblemTable.{ProblemTable}
 use Rattle.model.specs.Problems.{Problem, WellFormed, steps}
@@ -83,7 +83,7 @@ range_none pins T m free t o h = absurd (pinned_not (pins t o) (free t o) h)
 pub range_with : (pins new : Pins) (T m : ℕ) (c : Cell) (pin : Pin) → ((c.time < T) × (c.step < m)) ⊎ (pin ≡ unpinned) → InRange pins T m
     → ((t o : ℕ) → new t o ≡ with_pin pins c pin t o) → InRange new T m
 range_with pins new T m c pin inside r w t o h = ⊎_elim
-    (λ b. let e = w t o ∙ cond_true _ _ _ b in ⊎_elim
+    (λ b. let e = w t o ∙ cond-true _ _ _ b in ⊎_elim
     (λ i. let q = at_cell c t o (and_parts (ltb c.time 32) (is_cell c t o) b).1 in (subst (λ (u : ℕ). u < T) q.0 i.0, subst (λ (u : ℕ). u < m) q.1 i.1))
     (λ u. absurd (pinned_not (new t o) (e ∙ u) h)) inside)
     (λ b. let e = w t o ∙ cond-false _ _ _ b in r t o (⊎_elim (λ k. inl (sym e ∙ k)) (λ k. inr (sym e ∙ k)) h))

@@ -1,6 +1,6 @@
 -- One choice more is one mark more among what is given. Assumes nothing.
 use Rattle.std.proofs.Common.{◌≡◌, ℕ, ◌<◌, Bool, true, false, cond, ◌&&◌, ◌||◌, eqb, ltb, ◌⊎◌, List, [], ◌∷◌, ◌++◌, sym, refl, ap, ◌∙◌, subst, inl, inr, ⊎_elim, arith}
-use Rattle.std.proofs.lemmas.Bool.{both_ways, cases_Bool, cond_true, cond-false, and_parts, and_from, or_cases, or_left, or_right, lt-ltb}
+use Rattle.std.proofs.lemmas.Bool.{both_ways, cases_Bool, cond-true, cond-false, and_parts, and_from, or_cases, or_left, or_right, lt-ltb}
 use Rattle.sets.specs.Sets.{step_in}
 use Rattle.model.specs.declared.cell.Cell.{Cell}
 use Rattle.model.specs.declared.path.Side.{Side}
@@ -20,12 +20,12 @@ use Rattle.search.proofs.Seeing.{no_pin}
 -- a pin of a cell that has none yet
 pub pinned_here : (pins : Pins) (path : List Entry) (e : Entry) (t o : ℕ) → is_cell e.cell t o ≡ true → with_path pins path t o ≡ unpinned
     → with_path pins (path ++ (e ∷ [])) t o ≡ pin_of e.side
-pinned_here pins [] e t o k h = cond_true _ _ _ k
+pinned_here pins [] e t o k h = cond-true _ _ _ k
 pinned_here pins (x ∷ path) e t o k h = go (pinned_here pins path e t o k) (cases_Bool (is_cell x.cell t o))
   where
     go : (with_path pins path t o ≡ unpinned → with_path pins (path ++ (e ∷ [])) t o ≡ pin_of e.side)
         → (is_cell x.cell t o ≡ true) ⊎ (is_cell x.cell t o ≡ false) → with_path pins ((x ∷ path) ++ (e ∷ [])) t o ≡ pin_of e.side
-    go later (inl j) = absurd (no_pin x.side (sym (cond_true _ _ _ j) ∙ h))
+    go later (inl j) = absurd (no_pin x.side (sym (cond-true _ _ _ j) ∙ h))
     go later (inr j) = cond-false _ _ _ j ∙ later (sym (cond-false _ _ _ j) ∙ h)
 
 -- the other cells are as before

@@ -1,8 +1,8 @@
 -- A table that holds every cell once is an order of the cells. Assumes nothing.
 use Rattle.std.proofs.Common.{◌≡◌, ℕ, zero, suc, ◌*◌, ◌<◌, ◌≤◌, Bool, true, false, cond, ◌⊎◌, List, [], ◌∷◌, length, get_or, sym, refl, ap, ◌∙◌, subst, inl, inr, ⊎_elim, arith}
-use Rattle.std.proofs.lemmas.Bool.{both_ways, cases_Bool, cond_true, cond-false}
+use Rattle.std.proofs.lemmas.Bool.{both_ways, cases_Bool, cond-true, cond-false}
 use Rattle.model.specs.declared.cell.Cell.{Cell}
-use Rattle.model.specs.Rankings.{cell_of, Each_once}
+use Rattle.model.specs.Rankings.{cell_of, EachOnce}
 use Rattle.model.specs.Firsts.{Ordered}
 use Rattle.search.specs.Pinned.{is_cell}
 use Rattle.search.specs.Levels.{cell_at}
@@ -15,7 +15,7 @@ Finds order c p = (find_cell order c ≤ p) × (cell_at order (find_cell order c
 
 here : (x : Cell) (xs : List Cell) (c : Cell) (p : ℕ) → is_cell x c.time c.step ≡ true → Finds (x ∷ xs) c p
 here x xs c p k =
-    let z : find_cell (x ∷ xs) c ≡ 0 = cond_true _ _ _ k in
+    let z : find_cell (x ∷ xs) c ≡ 0 = cond-true _ _ _ k in
     let q = at_cell x c.time c.step k in
     (omega arith, ap (cell_at (x ∷ xs)) z ∙ same_cells x c q.0 q.1)
 
@@ -32,7 +32,7 @@ finds (x ∷ xs) c (suc p) l h = ⊎_elim
     (λ k. there x xs c p k (finds xs c p (omega arith) h))
     (cases_Bool (is_cell x c.time c.step))
 
-module _ (T m : ℕ) (order : List Cell) (once : Each_once T m order) (room : T * m ≤ length order) where
+module _ (T m : ℕ) (order : List Cell) (once : EachOnce T m order) (room : T * m ≤ length order) where
   found : (c : Cell) → c.time < T → c.step < m → (find_cell order c < T * m) × (cell_at order (find_cell order c) ≡ c)
   found c r q =
       let w = once.complete c r q in

@@ -1,6 +1,6 @@
 -- To agree with a path is to keep its choices as pins. Assumes nothing.
 use Rattle.std.proofs.Common.{◌≡◌, ℕ, ◌<◌, Bool, true, false, cond, ◌&&◌, eqb, ◌⊎◌, List, [], ◌∷◌, sym, refl, ap, ◌∙◌, subst, inl, inr, ⊎_elim, arith}
-use Rattle.std.proofs.lemmas.Bool.{both_ways, cases_Bool, cond_true, cond-false, and_parts, and_from, eqb-true, eq-eqb}
+use Rattle.std.proofs.lemmas.Bool.{both_ways, cases_Bool, cond-true, cond-false, and_parts, and_from, eqb-true, eq-eqb}
 use Rattle.model.specs.declared.cell.Cell.{Cell}
 use Rattle.model.specs.declared.path.Side.{Side}
 use Rattle.model.specs.declared.path.Side.TheVariants.{LeftOut, Taken}
@@ -55,7 +55,7 @@ keeps_with pins c path k a = says_keeps (with_path pins path) c (says path a)
     says : (path : List Entry) → Agrees c path → (t o : ℕ) → Says (with_path pins path t o) (c t o)
     says [] a t o = keeps_says pins c k t o
     says (e ∷ path) a t o = ⊎_elim
-        (λ h. subst (λ (x : Pin). Says x (c t o)) (sym (cond_true _ _ _ h))
+        (λ h. subst (λ (x : Pin). Says x (c t o)) (sym (cond-true _ _ _ h))
         (let q = at_cell e.cell t o h in
         side_says e.side (c t o) (sym (ap (λ (u : ℕ). c u o) q.0) ∙ sym (ap (λ (u : ℕ). c e.cell.time u) q.1) ∙ a.0)))
         (λ h. subst (λ (x : Pin). Says x (c t o)) (sym (cond-false _ _ _ h)) (says path a.1 t o))
@@ -81,7 +81,7 @@ with_keeps T m pins c (e ∷ path) f k =
 
     here : Follows c e
     here = says_side e.side (c e.cell.time e.cell.step)
-        (subst (λ (x : Pin). Says x (c e.cell.time e.cell.step)) (cond_true _ _ _ (own_cell e.cell)) (all e.cell.time e.cell.step))
+        (subst (λ (x : Pin). Says x (c e.cell.time e.cell.step)) (cond-true _ _ _ (own_cell e.cell)) (all e.cell.time e.cell.step))
 
     free : with_path pins path e.cell.time e.cell.step ≡ unpinned
     free = with_absent pins path e.cell f.3 ∙ f.2

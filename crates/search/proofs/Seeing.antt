@@ -1,6 +1,6 @@
 -- What marks at rest say of the plans that agree with the path. Assumes nothing.
 use Rattle.std.proofs.Common.{◌≡◌, ℕ, ◌*◌, ◌<◌, Bool, true, false, not, ◌&&◌, ◌||◌, eqb, ltb, ◌⊎◌, List, [], ◌∷◌, sym, refl, ap, ◌∙◌, subst, inl, inr, ⊎_elim, arith}
-use Rattle.std.proofs.lemmas.Bool.{both_ways, cases_Bool, cond_true, cond-false, and_parts, and_from, or_cases, or_left, or_right, not-true, lt-ltb}
+use Rattle.std.proofs.lemmas.Bool.{both_ways, cases_Bool, cond-true, cond-false, and_parts, and_from, or_cases, or_left, or_right, not-true, lt-ltb}
 use Rattle.model.specs.declared.cell.Cell.{Cell}
 use Rattle.model.specs.declared.path.Side.{Side}
 use Rattle.model.specs.declared.path.Side.TheVariants as side
@@ -53,7 +53,7 @@ free_absent pins (e ∷ path) c h = go (free_absent pins path c) (cases_Bool (is
   where
     go : (with_path pins path c.time c.step ≡ unpinned → Absent c path × (pins c.time c.step ≡ unpinned))
         → (is_cell e.cell c.time c.step ≡ true) ⊎ (is_cell e.cell c.time c.step ≡ false) → Absent c (e ∷ path) × (pins c.time c.step ≡ unpinned)
-    go later (inl k) = absurd (no_pin e.side (sym (cond_true _ _ _ k) ∙ h))
+    go later (inl k) = absurd (no_pin e.side (sym (cond-true _ _ _ k) ∙ h))
     go later (inr k) = let r = later (sym (cond-false _ _ _ k) ∙ h) in
         (((λ q. both_ways (is_cell e.cell c.time c.step) k (subst (λ (d : Cell). is_cell e.cell d.time d.step ≡ true) q (own_cell e.cell))), r.0), r.1)
 

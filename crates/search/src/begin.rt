@@ -33,7 +33,7 @@ pub(crate) fn work_out(marks: &mut Marks, index: &Index, pins: &Pins, length: us
 impl Search {
     // Takes up the problem of a source, at length 0 and with no pins.
     pub fn open<S: ProblemSource>(&mut self, source: &S)
-        ensures { Opened (meaning source.now) self.new }
+        ensures { Opened (S.meaning source.now) self.new }
     {
         self.problem = ProblemTable::of(source);
         self.clauses.make(&self.problem);
@@ -48,7 +48,7 @@ impl Search {
     // Takes up a length, with the ranking's order of the cells, and with no pins.
     pub fn ask<R: Ranking>(&mut self, length: usize, ranking: &R)
         requires { length ≤ 32 }
-        ensures { Asked self.old length (order ranking.now) self.new }
+        ensures { Asked self.old length (R.order ranking.now) self.new }
     {
         let _ = copy_order(ranking, length, self.problem.steps(), &mut self.order);
         self.length = length;

@@ -1,4 +1,6 @@
 // The search of one problem for the first plan in an order: its tables, its path, and one choice after another.
+#![tactic(auto)]
+
 pub mod begin;
 pub mod choose;
 pub mod forced;

@@ -1,4 +1,6 @@
 // The sheet reader: from the bytes of a job sheet to a problem source, or to the first fault and its place.
+#![tactic(auto)]
+
 pub mod adds;
 pub mod class;
 pub mod cut;

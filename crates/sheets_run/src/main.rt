@@ -1,5 +1,7 @@
 // `sheets_run`: reads sheets from standard input, each up to a percent sign, and prints for each the problem or the fault line;
 // then the same for sheets at the limits, which it builds.
+#![tactic(auto)]
+
 mod built;
 
 use anyhow::anyhow;

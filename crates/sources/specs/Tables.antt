@@ -2,7 +2,7 @@
 use Rattle.std.specs.Prelude.{◌≡◌, ℕ, zero, suc, ◌<◌, ◌≤◌, Bool, true, false, cond, not, ◌&&◌, List, [], ◌∷◌, length, nat_lt, slice_index_or, refl}
 use Rattle.std.proofs.Common.{sym, ap, ◌∙◌, ⊎_elim, arith}
 use Rattle.std.proofs.lemmas.List.{get_or_past}
-use Rattle.std.proofs.lemmas.Bool.{cases_lt, lt-ltb, le-ltb, cond_true, cond-false}
+use Rattle.std.proofs.lemmas.Bool.{cases_lt, lt-ltb, le-ltb, cond-true, cond-false}
 use Rattle.model.specs.declared.step.Step.{Step}
 use Rattle.model.specs.Problems.{Problem, steps, step, closed_step}
 use Rattle.sources.specs.Listed.{tabulate}
@@ -25,7 +25,7 @@ tabulate_past n row i d l = get_or_past (tabulate n row) i d (omega (arith, leng
 pub get_d_tabulate : {A : Type 0} (n : ℕ) (row : ℕ → A) (i : ℕ) (d : A) → slice_index_or (tabulate n row) i d ≡ cond (nat_lt i n) (row i) d
 get_d_tabulate n row i d =
     ⊎_elim
-    (λ l. tabulate_within n row i d l ∙ sym (cond_true (nat_lt i n) (row i) d (lt-ltb i n l)))
+    (λ l. tabulate_within n row i d l ∙ sym (cond-true (nat_lt i n) (row i) d (lt-ltb i n l)))
     (λ l. tabulate_past n row i d l ∙ sym (cond-false (nat_lt i n) (row i) d (le-ltb i n l)))
     (cases_lt i n)
 

@@ -19,10 +19,10 @@ impl<S: ProblemSource> ReachFilter<S> {
     // Over the source below, which stays as it is: its meaning is the one problem that filters that source's, and has the same plans.
     pub fn new(below: S) -> ReachFilter<S>
         ensures below { result.below ≡ below }
-        ensures exact { Exact (meaning below) result.closed }
-        ensures filters { Filters (meaning below) (closing (meaning result.below) result.closed) }
-        ensures only { (q : Problem) → Filters (meaning below) q → q ≡ closing (meaning result.below) result.closed }
-        ensures plans { SamePlans (meaning below) (closing (meaning result.below) result.closed) }
+        ensures exact { Exact (S.meaning below) result.closed }
+        ensures filters { Filters (S.meaning below) (closing (S.meaning result.below) result.closed) }
+        ensures only { (q : Problem) → Filters (S.meaning below) q → q ≡ closing (S.meaning result.below) result.closed }
+        ensures plans { SamePlans (S.meaning below) (closing (S.meaning result.below) result.closed) }
     {
         let closed = closed_steps(&below);
         ReachFilter { below, closed }
@@ -31,9 +31,9 @@ impl<S: ProblemSource> ReachFilter<S> {
 
 // It answers as the source below does, but for the steps that it closes.
 impl<S: ProblemSource> ProblemSource for ReachFilter<S> {
-    ghost meaning = { λ s. closing (S.ProblemSource.meaning s.below) s.closed };
+    ghost meaning = { λ s. closing (S.meaning s.below) s.closed };
 
-    ghost limits = { λ s. closing_well (S.ProblemSource.meaning s.below) s.closed (S.ProblemSource.limits s.below) };
+    ghost limits = { λ s. closing_well (S.meaning s.below) s.closed (S.limits s.below) };
 
     fn facts(&self) -> usize {
         self.below.facts()

@@ -28,7 +28,7 @@ fn widen(reach: LiteralSet, step: Step) -> LiteralSet
 
 // The literals that are true at the start.
 fn start_literals<S: ProblemSource>(source: &S) -> LiteralSet
-    ensures { OfStart (meaning source.now) result }
+    ensures { OfStart (S.meaning source.now) result }
 {
     let truths = source.start();
     LiteralSet::new(truths, FactSet::below(source.facts()).minus(truths))
@@ -36,7 +36,7 @@ fn start_literals<S: ProblemSource>(source: &S) -> LiteralSet
 
 // Once through the steps.
 fn round<S: ProblemSource>(source: &S, reach: LiteralSet) -> LiteralSet
-    ensures { Round (meaning source.now) (steps (meaning source.now)) reach result }
+    ensures { Round (S.meaning source.now) (steps (S.meaning source.now)) reach result }
 {
     let mut wide = reach;
     for o in 0..source.steps() {
@@ -47,7 +47,7 @@ fn round<S: ProblemSource>(source: &S, reach: LiteralSet) -> LiteralSet
 
 // Rounds, until one brings nothing new.
 fn reach_set<S: ProblemSource>(source: &S) -> LiteralSet
-    ensures { ReachSet (meaning source.now) result }
+    ensures { ReachSet (S.meaning source.now) result }
 {
     let mut reach = start_literals(source);
     loop {
@@ -61,7 +61,7 @@ fn reach_set<S: ProblemSource>(source: &S) -> LiteralSet
 
 // True for each step with a need outside the reach set.
 pub(crate) fn closed_steps<S: ProblemSource>(source: &S) -> [bool; 256]
-    ensures { Exact (meaning source.now) result }
+    ensures { Exact (S.meaning source.now) result }
 {
     let reach = reach_set(source);
     let mut closed = [false; 256];

@@ -4,8 +4,8 @@ use Rattle.std.proofs.lemmas.Bool.{both_ways, cases_lt}
 use Rattle.marks.proofs.Trail.{opp_lit_small}
 use Rattle.marks.proofs.build.gather.Goals as goal
 
-pub bounds-columns-opposite-literal : goal.bounds-columns-opposite-literal
-bounds-columns-opposite-literal c = subst (λ (k : ℕ). k < 128) (sym c.opposite-literal.ensures) (opp_lit_small c.in-Some.l c.in-Some.ensures.1)
+pub bounds-columns-opposite_literal : goal.bounds-columns-opposite_literal
+bounds-columns-opposite_literal c = subst (λ (k : ℕ). k < 128) (sym c.opposite_literal.ensures) (opp_lit_small c.in-Some.l c.in-Some.ensures.1)
 
 pub returns : goal.returns
 returns c =

@@ -17,18 +17,18 @@ loop-kind-init c =
 pub loop-kind-preserved : goal.loop-kind-preserved
 loop-kind-preserved c =
     let w = c.in-ok-kind.ensures in (
-      subst (λ (k : LineKind). Sofar c.args.sheet.now c.in-ok-kind.after.now (Some k) (c.loop-kind.line + 1) (stated c.one-line.new.problem)) (sym w.2)
-          (one_more c.args.sheet.now c.loop-kind.rest.now c.in-ok-kind.after.now c.loop-kind.previous c.loop-kind.line (stated c.loop-kind.problem) (stated c.one-line.new.problem) w.0 c.loop-kind.invariant.0 w.1 w.3 w.4),
-      inl (some_left c.in-ok-kind.after.now c.if-is-empty.ensures),
-      λ s. still_begun c.loop-kind.problem c.one-line.new.problem w.0 w.4 (λ i. c.loop-kind.invariant.2 (below_step c.loop-kind.previous (kind_stated w.0) w.3 i))
+      subst (λ (k : LineKind). Sofar c.args.sheet.now c.in-ok-kind.after.now (Some k) (c.loop-kind.line + 1) (stated c.one_line.new.problem)) (sym w.2)
+          (one_more c.args.sheet.now c.loop-kind.rest.now c.in-ok-kind.after.now c.loop-kind.previous c.loop-kind.line (stated c.loop-kind.problem) (stated c.one_line.new.problem) w.0 c.loop-kind.invariant.0 w.1 w.3 w.4),
+      inl (some_left c.in-ok-kind.after.now c.if-is_empty.ensures),
+      λ s. still_begun c.loop-kind.problem c.one_line.new.problem w.0 w.4 (λ i. c.loop-kind.invariant.2 (below_step c.loop-kind.previous (kind_stated w.0) w.3 i))
           (subst (λ (k : LineKind). after_step (Some k) ≡ true) w.2 s),
     )
 
 pub loop-kind-smaller : goal.loop-kind-smaller
 loop-kind-smaller c = let w = c.in-ok-kind.ensures in shorter c.loop-kind.rest.now w.0 c.in-ok-kind.after.now w.1
 
-pub one-line-requires : goal.one-line-requires
-one-line-requires c = (omega (arith, c.loop-kind.invariant.0.room, c.loop-kind.invariant.0.count), c.loop-kind.invariant.2)
+pub one_line-requires : goal.one_line-requires
+one_line-requires c = (omega (arith, c.loop-kind.invariant.0.room, c.loop-kind.invariant.0.count), c.loop-kind.invariant.2)
 
 pub returns-in-err-kind : goal.returns-in-err-kind
 returns-in-err-kind c =
@@ -39,7 +39,7 @@ returns-in-err-kind c =
 pub returns : goal.returns
 returns c =
     let w = c.in-ok-kind.ensures in
-    finished c.args.sheet.now c.in-ok-kind.after.now (Some c.in-ok-kind.kind) (c.loop-kind.line + 1) (stated c.one-line.new.problem) c.check-end.result c.requires.0 (omega (arith, c.loop-kind.invariant.0.count))
-    (subst (λ (k : LineKind). Sofar c.args.sheet.now c.in-ok-kind.after.now (Some k) (c.loop-kind.line + 1) (stated c.one-line.new.problem)) (sym w.2)
-    (one_more c.args.sheet.now c.loop-kind.rest.now c.in-ok-kind.after.now c.loop-kind.previous c.loop-kind.line (stated c.loop-kind.problem) (stated c.one-line.new.problem) w.0 c.loop-kind.invariant.0 w.1 w.3 w.4))
-    (none_left c.in-ok-kind.after.now c.if-is-empty.ensures) c.check-end.ensures
+    finished c.args.sheet.now c.in-ok-kind.after.now (Some c.in-ok-kind.kind) (c.loop-kind.line + 1) (stated c.one_line.new.problem) c.check_end.result c.requires.0 (omega (arith, c.loop-kind.invariant.0.count))
+    (subst (λ (k : LineKind). Sofar c.args.sheet.now c.in-ok-kind.after.now (Some k) (c.loop-kind.line + 1) (stated c.one_line.new.problem)) (sym w.2)
+    (one_more c.args.sheet.now c.loop-kind.rest.now c.in-ok-kind.after.now c.loop-kind.previous c.loop-kind.line (stated c.loop-kind.problem) (stated c.one_line.new.problem) w.0 c.loop-kind.invariant.0 w.1 w.3 w.4))
+    (none_left c.in-ok-kind.after.now c.if-is_empty.ensures) c.check_end.ensures

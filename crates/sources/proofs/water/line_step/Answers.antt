@@ -3,4 +3,4 @@ use Rattle.sources.specs.Waters.{water_later}
 use Rattle.sources.proofs.water.line_step.Goals as goal
 
 pub returns-else-number-eq1 : goal.returns-else-number-eq1
-returns-else-number-eq1 c = c.meter-step.ensures ∙ water_later c.args.k c.args.number c.if-number-eq0.false c.if-number-eq1.false
+returns-else-number-eq1 c = c.meter_step.ensures ∙ water_later c.args.k c.args.number c.if-number-eq0.false c.if-number-eq1.false

@@ -34,7 +34,7 @@ returns c =
     let o = c.args.o in
     let r = c.args.self.now in
     let W = kept_in r in
-    let t = c.strike-rows.new.self in
+    let t = c.strike_rows.new.self in
     let against = c.opposites-against.result in
     let linked = c.linked-linked.result in
     let known = c.union-known.result in
@@ -53,7 +53,7 @@ returns c =
     λ l. c.union-safe.ensures.members l ∙ ap (λ (b : Bool). lit_in c.step-step.result.makes l || b) (c.minus.ensures.members l)
     ∙ ap (λ (s : Step). lit_in s.makes l || (lit_in known l && not (lit_in undone l))) is in
     let e = c.linked-linked.ensures in
-    let k = c.strike-rows.ensures in
+    let k = c.strike_rows.ensures in
     record {
       struck = struck_by r t _ (Spoilt p o W)
           (λ a b h. (

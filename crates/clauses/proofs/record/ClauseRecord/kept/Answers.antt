@@ -1,5 +1,5 @@
 use Rattle.std.proofs.Common.{ltb, Ok, sym, ap, ◌∙◌, arith}
-use Rattle.std.proofs.lemmas.Bool.{cond_true, cond-false, and_left, and_right, and_from, lt-ltb, le-ltb}
+use Rattle.std.proofs.lemmas.Bool.{cond-true, cond-false, and_left, and_right, and_from, lt-ltb, le-ltb}
 use Rattle.sets.specs.Literals.{fact, lit}
 use Rattle.clauses.proofs.Laws.{fact_lit}
 use Rattle.clauses.proofs.record.ClauseRecord.kept.Goals as goal
@@ -21,4 +21,4 @@ returns c =
     let n = c.args.self.now.facts in
     let l = lt-ltb (fact (lit c.args.a)) n (omega (arith, fact_lit c.args.a, c.if-a-self.false)) in
     let k = lt-ltb (fact (lit c.args.b)) n (omega (arith, fact_lit c.args.b, c.if-b-self.false)) in
-    ap Ok c.contains.ensures ∙ sym (cond_true _ _ _ (and_from (ltb (fact (lit c.args.a)) n) (ltb (fact (lit c.args.b)) n) l k))
+    ap Ok c.contains.ensures ∙ sym (cond-true _ _ _ (and_from (ltb (fact (lit c.args.a)) n) (ltb (fact (lit c.args.b)) n) l k))

@@ -13,11 +13,11 @@ loop-a-preserved c =
     let inv = c.loop-a.invariant in
     let e = c.in-Some.ensures in
     let s = c.loop-a.self in
-    let t = c.strike-row.new.self in
+    let t = c.strike_row.new.self in
     let a = c.in-Some.a in
     let undone = c.args.undone in
     let safe = c.args.safe in
-    let k = c.strike-row.ensures in (
+    let k = c.strike_row.ensures in (
       struck_more _ s t _ inv.0
           (struck_by s t _ (λ k x. (lit_in undone k ≡ true) × (lit_in safe x ≡ false)) (λ k x h. (ap (lit_in undone) (at_code k a h.0) ∙ e.2, h.1)) k.struck),
       walk_lit (λ k. (x : Literal) → lit_in safe x ≡ false → kept_in t k x ≡ false) undone c.loop-a.from a

@@ -7,17 +7,17 @@ use Rattle.marks.specs.Tables.{number_in}
 use Rattle.marks.proofs.Made.{needs_are, makes_are, needers_are, rival_interferes, interferes_rival, clauses_are}
 use Rattle.marks.proofs.index.Index.build.Goals as goal
 
-pub invariant-of-self : goal.invariant-of-self
-invariant-of-self c = (c.transpose-2.ensures, tt)
+pub invariant_of-self : goal.invariant_of-self
+invariant_of-self c = (c.transpose-2.ensures, tt)
 
 pub returns : goal.returns
 returns c =
     let t = c.args.problem.now in let p = problem_of t in
     let few : steps p ≤ 256 = omega (arith, length-take-le t.count t.steps (omega (arith, t.sized, t.few_steps)), t.few_steps) in
-    let needs = c.fill-needs.new.rows in let makes = c.fill-makes.new.rows in let rivals = c.fill-rivals.new.rivals in
+    let needs = c.fill_needs.new.rows in let makes = c.fill_makes.new.rows in let rivals = c.fill_rivals.new.rivals in
     let makers = c.transpose-2.new.columns in let needers = c.transpose.new.columns in
-    let nr = c.fill-needs.ensures in let mr = c.fill-makes.ensures in let mt = c.transpose-2.ensures in let nt = c.transpose.ensures in
-    let rr = c.fill-rivals.ensures.rows in let sz = c.fill-rivals.ensures.sized in
+    let nr = c.fill_needs.ensures in let mr = c.fill_makes.ensures in let mt = c.transpose-2.ensures in let nt = c.transpose.ensures in
+    let rr = c.fill_rivals.ensures.rows in let sz = c.fill_rivals.ensures.sized in
     record {
       needs = needs_are needs makes rivals makers needers p few nr mr mt nt rr sz;
       needers = needers_are needs makes rivals makers needers p few nr mr mt nt rr sz;
@@ -25,9 +25,9 @@ returns c =
       rivals = rival_interferes needs makes rivals makers needers p few nr mr mt nt rr sz;
       all_rivals = interferes_rival needs makes rivals makers needers p few nr mr mt nt rr sz;
       clauses = clauses_are c.args.kept.now;
-      start = λ l h. c.start-literals-self.ensures.why (lit l) h;
-      all_start = λ l h k. c.start-literals-self.ensures.there (lit l) h k;
+      start = λ l h. c.start_literals-self.ensures.why (lit l) h;
+      all_start = λ l h k. c.start_literals-self.ensures.there (lit l) h k;
       goal = λ l. ap (λ (s : LiteralSet). number_in s l) c.goal-self.ensures;
-      closed = λ o h. c.closed-steps-self.ensures.why o h;
-      all_closed = λ o h k. c.closed-steps-self.ensures.there o h k;
+      closed = λ o h. c.closed_steps-self.ensures.why o h;
+      all_closed = λ o h k. c.closed_steps-self.ensures.there o h k;
     }

@@ -4,8 +4,8 @@ use Rattle.model.specs.Plans.{unpinned, take, leave}
 use Rattle.marks.proofs.Empties.{no_member}
 use Rattle.marks.proofs.pins.Pins.none.Goals as goal
 
-pub invariant-of-result : goal.invariant-of-result
-invariant-of-result c = ((λ t o h k. both_ways _ (no_member c.empty.result c.empty.ensures 32 t o) h), (refl, (refl, tt)))
+pub invariant_of-result : goal.invariant_of-result
+invariant_of-result c = ((λ t o h k. both_ways _ (no_member c.empty.result c.empty.ensures 32 t o) h), (refl, (refl, tt)))
 
 pub returns : goal.returns
 returns c t o = ap₂ (λ (a b : Bool). cond a take (cond b leave unpinned))

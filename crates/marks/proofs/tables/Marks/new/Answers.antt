@@ -3,8 +3,8 @@ use Rattle.marks.specs.declared.mark.Mark.TheVariants.{Fact}
 use Rattle.marks.proofs.Empties.{listed_none}
 use Rattle.marks.proofs.tables.Marks.new.Goals as goal
 
-pub invariant-of-result : goal.invariant-of-result
-invariant-of-result c = (
+pub invariant_of-result : goal.invariant_of-result
+invariant_of-result c = (
   refl,
   (
     omega arith,

@@ -79,8 +79,8 @@ module _ (m : Marks) (x : Mark) (some : m.head < m.len) (top : x ≡ mark_at m.t
   left-time : (t o : ℕ) → x ≡ LeftOut t o → t < 32
   left-time t o e = let b = ltb-true t m.length (and_parts _ _ (sym (ap (ranged m.length) e) ∙ ok-top)).0 in omega (arith, m.short)
 
-pub strike-literal-requires : goal.strike-literal-requires
-strike-literal-requires c =
+pub strike_literal-requires : goal.strike_literal-requires
+strike_literal-requires c =
     let m = c.args.self.now in let x = c.in-Some.x in
     let r = c.pop-top.new.self.table.now in let n = c.len-self.result in let s = c.resume-trail.ensures in let p = c.pop-top.ensures in
     let top = top_is m.trail c.resume-trail.result.table.now m.len c.resume-trail.result.len (omega (arith, m.room, m.sized)) s.table s.len
@@ -88,15 +88,15 @@ strike-literal-requires c =
     let er = p.table ∙ s.table in let en : n ≡ m.len - 1 = omega (arith, c.len-self.ensures, p.len, s.len, m.room, m.sized) in
     let h = fact-time m x c.requires.some top r n er en c.in-Fact.t c.in-Fact.l c.in-Fact.is in omega (arith, h)
 
-pub invariant-of-self-in-Fact : goal.invariant-of-self-in-Fact
+pub invariant_of-self-in-Fact : goal.invariant_of-self-in-Fact
 unfolding StruckL
-invariant-of-self-in-Fact c =
+invariant_of-self-in-Fact c =
     let m = c.args.self.now in let x = c.in-Some.x in
     let r = c.pop-top.new.self.table.now in let n = c.len-self.result in let s = c.resume-trail.ensures in let p = c.pop-top.ensures in
     let top = top_is m.trail c.resume-trail.result.table.now m.len c.resume-trail.result.len (omega (arith, m.room, m.sized)) s.table s.len
     r c.pop-top.new.self.len x (Fact 0 0) (omega (arith, c.requires.some)) p.table p.len c.in-Some.ensures.held in
     let er = p.table ∙ s.table in let en : n ≡ m.len - 1 = omega (arith, c.len-self.ensures, p.len, s.len, m.room, m.sized) in
-    let e = now-fact m x c.in-Fact.t c.in-Fact.l c.strike-literal.new.table c.strike-literal.ensures c.in-Fact.is in (
+    let e = now-fact m x c.in-Fact.t c.in-Fact.l c.strike_literal.new.table c.strike_literal.ensures c.in-Fact.is in (
       ap length er ∙ m.sized,
       (
         m.short,
@@ -119,9 +119,9 @@ strike-requires c =
     let er = p.table ∙ s.table in let en : n ≡ m.len - 1 = omega (arith, c.len-self.ensures, p.len, s.len, m.room, m.sized) in
     let h = taken-time m x c.requires.some top r n er en c.in-Taken.t c.in-Taken.o c.in-Taken.is in omega (arith, h)
 
-pub invariant-of-self-in-Taken : goal.invariant-of-self-in-Taken
+pub invariant_of-self-in-Taken : goal.invariant_of-self-in-Taken
 unfolding Struck
-invariant-of-self-in-Taken c =
+invariant_of-self-in-Taken c =
     let m = c.args.self.now in let x = c.in-Some.x in
     let r = c.pop-top.new.self.table.now in let n = c.len-self.result in let s = c.resume-trail.ensures in let p = c.pop-top.ensures in
     let top = top_is m.trail c.resume-trail.result.table.now m.len c.resume-trail.result.len (omega (arith, m.room, m.sized)) s.table s.len
@@ -150,9 +150,9 @@ strike-requires-in-LeftOut c =
     let er = p.table ∙ s.table in let en : n ≡ m.len - 1 = omega (arith, c.len-self.ensures, p.len, s.len, m.room, m.sized) in
     let h = left-time m x c.requires.some top r n er en c.in-LeftOut.t c.in-LeftOut.o c.in-LeftOut.is in omega (arith, h)
 
-pub invariant-of-self-in-LeftOut : goal.invariant-of-self-in-LeftOut
+pub invariant_of-self-in-LeftOut : goal.invariant_of-self-in-LeftOut
 unfolding Struck
-invariant-of-self-in-LeftOut c =
+invariant_of-self-in-LeftOut c =
     let m = c.args.self.now in let x = c.in-Some.x in
     let r = c.pop-top.new.self.table.now in let n = c.len-self.result in let s = c.resume-trail.ensures in let p = c.pop-top.ensures in
     let top = top_is m.trail c.resume-trail.result.table.now m.len c.resume-trail.result.len (omega (arith, m.room, m.sized)) s.table s.len

@@ -79,15 +79,15 @@ module _ (m : Marks) (x : Mark) (t i : ℕ) where
       go (Fact u k) = refl
       go (Taken u k) = refl
 
-pub invariant-of-self : goal.invariant-of-self
+pub invariant_of-self : goal.invariant_of-self
 unfolding EnteredL
-invariant-of-self c =
+invariant_of-self c =
     let m = c.args.self.now in let x = c.args.x in let a = c.requires.ranged in let b = c.requires.free in let d = c.requires.unopposed in
     let r = c.push.new.self.table.now in let n = c.len-self.result in let s = c.resume-trail.ensures in let p = c.push.ensures in
     let w = pushed m.trail c.resume-trail.result.table.now m.len c.resume-trail.result.len (omega (arith, room_in m x a b d)) s.table s.len
     r c.push.new.self.len c.push.result x (room_in m x a b d) p.fits p.table p.len in
     let en = c.len-self.ensures ∙ w.1 in
-    let e = now-fact m x c.in-Fact.t c.in-Fact.l c.enter-literal.new.table c.enter-literal.ensures c.in-Fact.is in (
+    let e = now-fact m x c.in-Fact.t c.in-Fact.l c.enter_literal.new.table c.enter_literal.ensures c.in-Fact.is in (
       sized_on m x a b d r n w.0 en,
       (
         m.short,
@@ -115,12 +115,12 @@ returns-in-Fact c =
       same_conflict = refl;
       one_more = en;
       pushed = kept_on m x a b d r n w.0 en;
-      now_on = now-fact m x c.in-Fact.t c.in-Fact.l c.enter-literal.new.table c.enter-literal.ensures c.in-Fact.is;
+      now_on = now-fact m x c.in-Fact.t c.in-Fact.l c.enter_literal.new.table c.enter_literal.ensures c.in-Fact.is;
     }
 
-pub invariant-of-self-in-Taken : goal.invariant-of-self-in-Taken
+pub invariant_of-self-in-Taken : goal.invariant_of-self-in-Taken
 unfolding Entered
-invariant-of-self-in-Taken c =
+invariant_of-self-in-Taken c =
     let m = c.args.self.now in let x = c.args.x in let a = c.requires.ranged in let b = c.requires.free in let d = c.requires.unopposed in
     let r = c.push.new.self.table.now in let n = c.len-self.result in let s = c.resume-trail.ensures in let p = c.push.ensures in
     let w = pushed m.trail c.resume-trail.result.table.now m.len c.resume-trail.result.len (omega (arith, room_in m x a b d)) s.table s.len
@@ -157,9 +157,9 @@ returns-in-Taken c =
       now_on = now-taken m x c.in-Taken.t c.in-Taken.o c.enter.new.table c.enter.ensures c.in-Taken.is;
     }
 
-pub invariant-of-self-in-LeftOut : goal.invariant-of-self-in-LeftOut
+pub invariant_of-self-in-LeftOut : goal.invariant_of-self-in-LeftOut
 unfolding Entered
-invariant-of-self-in-LeftOut c =
+invariant_of-self-in-LeftOut c =
     let m = c.args.self.now in let x = c.args.x in let a = c.requires.ranged in let b = c.requires.free in let d = c.requires.unopposed in
     let r = c.push.new.self.table.now in let n = c.len-self.result in let s = c.resume-trail.ensures in let p = c.push.ensures in
     let w = pushed m.trail c.resume-trail.result.table.now m.len c.resume-trail.result.len (omega (arith, room_in m x a b d)) s.table s.len

@@ -4,7 +4,7 @@ use Rattle.marks.proofs.tables.Marks.retreat.Goals as goal
 
 pub returns-then-n-self : goal.returns-then-n-self
 returns-then-n-self c = record {
-  back = λ h. c.take-back.ensures;
-  restores = λ h. restored c.args.self.now c.take-back.new.self c.args.n c.take-back.ensures;
+  back = λ h. c.take_back.ensures;
+  restores = λ h. restored c.args.self.now c.take_back.new.self c.args.n c.take_back.ensures;
   idle = λ h. absurd (omega arith);
 }

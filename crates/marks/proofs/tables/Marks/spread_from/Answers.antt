@@ -11,19 +11,19 @@ use Rattle.marks.proofs.Spread.{need_false_worked}
 use Rattle.marks.proofs.tables.Marks.spread_from.Goals as goal
 
 pub bounds-ix-f : goal.bounds-ix-f
-bounds-ix-f c = subst (λ (k : ℕ). k < 128) (sym c.opposite-literal-f.ensures) (opp_lit_small c.args.l c.requires.literal)
+bounds-ix-f c = subst (λ (k : ℕ). k < 128) (sym c.opposite_literal-f.ensures) (opp_lit_small c.args.l c.requires.literal)
 
 pub check-requires : goal.check-requires
 check-requires c = (
-  omega (arith, c.if-t-self.true, c.leave-all.ensures.grows.same_length),
-  subst (λ (k : ℕ). k < 128) (sym c.opposite-literal-f.ensures) (opp_lit_small c.args.l c.requires.literal),
+  omega (arith, c.if-t-self.true, c.leave_all.ensures.grows.same_length),
+  subst (λ (k : ℕ). k < 128) (sym c.opposite_literal-f.ensures) (opp_lit_small c.args.l c.requires.literal),
 )
 
 pub returns-then-t-self : goal.returns-then-t-self
 returns-then-t-self c =
-    let ix = c.args.ix.now in let t = c.args.t in let l = c.args.l in let a = c.args.self.now in let b = c.leave-all.new.self in
-    let f = c.opposite-literal-f.ensures in
-    let d1 : Added a (LeavesOut (get_or ix.needers (opp_lit l) no_steps) t) b = subst (λ (k : ℕ). Added a (LeavesOut (get_or ix.needers k no_steps) t) b) f c.leave-all.ensures in
+    let ix = c.args.ix.now in let t = c.args.t in let l = c.args.l in let a = c.args.self.now in let b = c.leave_all.new.self in
+    let f = c.opposite_literal-f.ensures in
+    let d1 : Added a (LeavesOut (get_or ix.needers (opp_lit l) no_steps) t) b = subst (λ (k : ℕ). Added a (LeavesOut (get_or ix.needers k no_steps) t) b) f c.leave_all.ensures in
     let d2 : Added b (Concluded ix (On b) t (opp_lit l)) c.check.new.self = subst (λ (k : ℕ). Added b (Concluded ix (On b) t k) c.check.new.self) f c.check.ensures in
     record {
       worked = worked_trans (need_false_worked ix t l c.if-t-self.true c.requires.there d1)

@@ -8,7 +8,7 @@ use Rattle.marks.proofs.tables.Marks.spread_taken.Goals as goal
 pub returns : goal.returns
 returns c =
     let ix = c.args.ix.now in let t = c.args.t in let o = c.args.o in
-    let d1 = c.hold-all.ensures in let d2 = c.hold-all-2.ensures in let d3 = c.leave-all.ensures in
+    let d1 = c.hold_all.ensures in let d2 = c.hold_all-2.ensures in let d3 = c.leave_all.ensures in
     let k1 = d1.grows.keeps (Taken t o) c.requires.there in let k2 = d2.grows.keeps (Taken t o) k1 in
     record {
       worked = worked_trans (needs_worked ix t o c.requires.there d1) (worked_trans (makes_worked ix t o k1 d2) (rivals_worked ix t o k2 d3));

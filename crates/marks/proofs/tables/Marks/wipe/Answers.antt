@@ -2,8 +2,8 @@ use Rattle.std.proofs.Common.{arith}
 use Rattle.marks.proofs.Empties.{listed_none}
 use Rattle.marks.proofs.tables.Marks.wipe.Goals as goal
 
-pub invariant-of-self : goal.invariant-of-self
-invariant-of-self c = (
+pub invariant_of-self : goal.invariant_of-self
+invariant_of-self c = (
   c.args.self.now.sized,
   (
     c.requires,

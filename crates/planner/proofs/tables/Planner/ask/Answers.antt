@@ -1,4 +1,4 @@
 use Rattle.planner.proofs.tables.Planner.ask.Goals as goal
 
-pub invariant-of-self : goal.invariant-of-self
-invariant-of-self g c = (∣ tt ∣₁, tt)
+pub invariant_of-self : goal.invariant_of-self
+invariant_of-self g c = (∣ tt ∣₁, tt)

@@ -4,8 +4,8 @@ use Rattle.planner.specs.Obeys.{ledger}
 use Rattle.planner.proofs.Obeying.{ask_obeys}
 use Rattle.planner.proofs.tables.Planner.ask.Goals as goal
 
-pub invariant-of-self : goal.invariant-of-self
-invariant-of-self g c = (∣ tt ∣₁, tt)
+pub invariant_of-self : goal.invariant_of-self
+invariant_of-self g c = (∣ tt ∣₁, tt)
 
 not-fitting : (b : Bool) → ◌≡◌ {A = ℕ} (cond b 21 0) 0 → b ≡ false
 not-fitting true h = absurd (omega arith)

@@ -2,8 +2,8 @@ use Rattle.std.proofs.Common.{refl}
 use Rattle.planner.proofs.Obeying.{open_obeys}
 use Rattle.planner.proofs.tables.Planner.open.Goals as goal
 
-pub invariant-of-self : goal.invariant-of-self
-invariant-of-self g c = (∣ tt ∣₁, tt)
+pub invariant_of-self : goal.invariant_of-self
+invariant_of-self g c = (∣ tt ∣₁, tt)
 
 pub returns : goal.returns
 returns g c = open_obeys c.args.self.now _ _ refl c.open.ensures

@@ -4,8 +4,8 @@ use Rattle.model.specs.Plans.{unpinned}
 use Rattle.planner.proofs.Saying.{pin_here, pin_there, asked_stage}
 use Rattle.planner.proofs.tables.Planner.pin.Goals as goal
 
-pub invariant-of-self : goal.invariant-of-self
-invariant-of-self c = (∣ tt ∣₁, tt)
+pub invariant_of-self : goal.invariant_of-self
+invariant_of-self c = (∣ tt ∣₁, tt)
 
 pub returns : goal.returns
 returns c =
@@ -26,8 +26,8 @@ returns c =
           problem = c.pin.ensures.problem;
           length = c.pin.ensures.length;
           order = c.pin.ensures.order;
-          here = pin_here (pins_of p.search.pins) (pins_of new.pins) d (pin_of c.side-of.result) t o w.0 w.1 (omega (arith, w.2, p.search.short)) (c.pin.ensures.pins t o) ∙ c.side-of.ensures;
-          elsewhere = λ u k h. pin_there (pins_of p.search.pins) (pins_of new.pins) d (pin_of c.side-of.result) t o u k w.0 w.1 h (c.pin.ensures.pins u k);
+          here = pin_here (pins_of p.search.pins) (pins_of new.pins) d (pin_of c.side_of.result) t o w.0 w.1 (omega (arith, w.2, p.search.short)) (c.pin.ensures.pins t o) ∙ c.side_of.ensures;
+          elsewhere = λ u k h. pin_there (pins_of p.search.pins) (pins_of new.pins) d (pin_of c.side_of.result) t o u k w.0 w.1 h (c.pin.ensures.pins u k);
         },
       );
     }

@@ -10,9 +10,9 @@ returns-in-err-cell c =
     let k = c.in-err-cell.ensures in
     rw (p.1, p.2) (pin_breaks c.args.self.now c.args.time c.args.step c.in-err-cell.field-0.0 k.0 k.1 c.args.taken)
 
-pub invariant-of-self : goal.invariant-of-self
-invariant-of-self c = (∣ tt ∣₁, tt)
+pub invariant_of-self : goal.invariant_of-self
+invariant_of-self c = (∣ tt ∣₁, tt)
 
 pub returns : goal.returns
-returns c = pin_obeys c.args.self.now _ c.args.time c.args.step c.in-ok-cell.cell c.in-ok-cell.ensures.1 refl refl c.args.taken (pin_of c.side-of.result) c.in-default.ensures
-    c.side-of.ensures c.pin.ensures
+returns c = pin_obeys c.args.self.now _ c.args.time c.args.step c.in-ok-cell.cell c.in-ok-cell.ensures.1 refl refl c.args.taken (pin_of c.side_of.result) c.in-default.ensures
+    c.side_of.ensures c.pin.ensures

@@ -6,8 +6,8 @@ use Rattle.planner.proofs.tables.Planner.run.Goals as goal
 pub returns-in-default : goal.returns-in-default
 returns-in-default c = run_again c.args.self.now c.args.choices c.in-ok-asked.ensures.1 c.in-default.not-NotYet c.if-choices-eq0.false c.if-choices-gt1000000.false
 
-pub invariant-of-self : goal.invariant-of-self
-invariant-of-self c = (∣ ends c.args.self.now.search c.run-outcome.new.self c.args.choices c.run-outcome.result c.run-outcome.ensures.same c.run-outcome.ensures.ran ∣₁, tt)
+pub invariant_of-self : goal.invariant_of-self
+invariant_of-self c = (∣ ends c.args.self.now.search c.run-outcome.new.self c.args.choices c.run-outcome.result c.run-outcome.ensures.same c.run-outcome.ensures.ran ∣₁, tt)
 
 pub returns : goal.returns
 returns c = run_obeys c.args.self.now _ c.args.choices c.run-outcome.result c.in-ok-asked.ensures.1 c.in-NotYet.is c.if-choices-eq0.false c.if-choices-gt1000000.false refl refl

@@ -9,8 +9,8 @@ returns-in-err-freed c =
     let k = c.in-err-freed.ensures in
     rw (p.1, p.2) (unpin_breaks c.args.self.now c.args.time c.args.step c.in-err-freed.field-0.0 k.0 k.1)
 
-pub invariant-of-self : goal.invariant-of-self
-invariant-of-self c = (∣ tt ∣₁, tt)
+pub invariant_of-self : goal.invariant_of-self
+invariant_of-self c = (∣ tt ∣₁, tt)
 
 pub returns : goal.returns
 returns c = unpin_obeys c.args.self.now _ c.args.time c.args.step c.in-ok-freed.freed c.in-ok-freed.ensures.1 refl refl c.in-default.field-0 c.in-default.ensures c.unpin.ensures

@@ -5,11 +5,11 @@ use Rattle.planner.proofs.Saying.{writes_as, writes_plan}
 use Rattle.planner.proofs.tables.Planner.write.Goals as goal
 
 pub returns-in-NotYet : goal.returns-in-NotYet
-returns-in-NotYet c = writes_as c.args.self.now NotYet c.args.out.now c.write-not-yet.new.out c.write-not-yet.result c.in-NotYet.is ∣ (not_yet_card, refl, c.write-not-yet.ensures) ∣₁
+returns-in-NotYet c = writes_as c.args.self.now NotYet c.args.out.now c.write_not_yet.new.out c.write_not_yet.result c.in-NotYet.is ∣ (not_yet_card, refl, c.write_not_yet.ensures) ∣₁
 
 pub returns-in-NoPlan : goal.returns-in-NoPlan
-returns-in-NoPlan c = writes_as c.args.self.now NoPlan c.args.out.now c.write-none.new.out c.write-none.result c.in-NoPlan.is ∣ (none_card, refl, c.write-none.ensures) ∣₁
+returns-in-NoPlan c = writes_as c.args.self.now NoPlan c.args.out.now c.write_none.new.out c.write_none.result c.in-NoPlan.is ∣ (none_card, refl, c.write_none.ensures) ∣₁
 
 pub returns-in-Plan : goal.returns-in-Plan
-returns-in-Plan c = writes_plan c.args.self.now c.args.out.now c.write-card.new.out c.write-card.result c.taken.result.now c.steps.result c.length.result c.in-Plan.is
-    c.taken.ensures c.steps.ensures.value c.length.ensures.value c.write-card.ensures
+returns-in-Plan c = writes_plan c.args.self.now c.args.out.now c.write_card.new.out c.write_card.result c.taken.result.now c.steps.result c.length.result c.in-Plan.is
+    c.taken.ensures c.steps.ensures.value c.length.ensures.value c.write_card.ensures

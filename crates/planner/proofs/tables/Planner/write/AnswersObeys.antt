@@ -2,11 +2,11 @@ use Rattle.planner.proofs.Telling.{writes_not_yet, writes_none, writes_plan}
 use Rattle.planner.proofs.tables.Planner.write.Goals as goal
 
 pub returns-in-NotYet : goal.returns-in-NotYet
-returns-in-NotYet c = writes_not_yet c.args.self.now c.args.out.now c.write-not-yet.new.out c.write-not-yet.result c.in-NotYet.is c.write-not-yet.ensures
+returns-in-NotYet c = writes_not_yet c.args.self.now c.args.out.now c.write_not_yet.new.out c.write_not_yet.result c.in-NotYet.is c.write_not_yet.ensures
 
 pub returns-in-NoPlan : goal.returns-in-NoPlan
-returns-in-NoPlan c = writes_none c.args.self.now c.args.out.now c.write-none.new.out c.write-none.result c.in-NoPlan.is c.write-none.ensures
+returns-in-NoPlan c = writes_none c.args.self.now c.args.out.now c.write_none.new.out c.write_none.result c.in-NoPlan.is c.write_none.ensures
 
 pub returns-in-Plan : goal.returns-in-Plan
-returns-in-Plan c = writes_plan c.args.self.now c.args.out.now c.write-card.new.out c.write-card.result c.taken.result.now c.steps.result c.length.result c.in-Plan.is
-    c.taken.ensures c.steps.ensures.value c.length.ensures.value c.write-card.ensures
+returns-in-Plan c = writes_plan c.args.self.now c.args.out.now c.write_card.new.out c.write_card.result c.taken.result.now c.steps.result c.length.result c.in-Plan.is
+    c.taken.ensures c.steps.ensures.value c.length.ensures.value c.write_card.ensures

@@ -1,25 +1,25 @@
 use Rattle.std.proofs.Common.{◌≡◌, ℕ, ◌*◌, ◌≤◌, true, length, sym, refl, ap, ◌∙◌, subst, mul-le-mul, arith}
 use Rattle.model.specs.Problems.{steps}
 use Rattle.model.specs.Held.{problem_of}
-use Rattle.model.specs.Rankings.{Each_once, Copied}
+use Rattle.model.specs.Rankings.{EachOnce, Copied}
 use Rattle.marks.specs.Pinning.{pins_of}
 use Rattle.search.proofs.Ordered.{ordered}
 use Rattle.search.proofs.Searches.{few_rows}
 use Rattle.search.proofs.Beginnings.{asks_anew, range_none, fits_true}
 use Rattle.search.proofs.tables.Search.ask.Goals as goal
 
-pub invariant-of-self : goal.invariant-of-self
-invariant-of-self g c =
+pub invariant_of-self : goal.invariant_of-self
+invariant_of-self g c =
     let s = c.args.self.now in
     let T = c.args.length in
     let m = steps (problem_of s.problem) in
     let few = few_rows s.problem in
     let small : T * m ≤ 8192 = mul-le-mul c.requires few in
-    let long : length c.copy-order.new.table ≡ 8192 = omega (arith, c.copy-order.auto.table, s.order_sized) in
-    let true_at : c.copy-order.result ≡ true = c.copy-order.ensures.fits
+    let long : length c.copy_order.new.table ≡ 8192 = omega (arith, c.copy_order.auto.table, s.order_sized) in
+    let true_at : c.copy_order.result ≡ true = c.copy_order.ensures.fits
     ∙ fits_true T c.steps.result (length s.order) c.requires (omega (arith, few, c.steps.ensures))
     (subst (λ (k : ℕ). T * k ≤ length s.order) (sym c.steps.ensures) (omega (arith, small, s.order_sized))) in
-    let once : Each_once T m c.copy-order.new.table = subst (λ (k : ℕ). Each_once T k c.copy-order.new.table) c.steps.ensures (c.copy-order.ensures.once true_at) in (
+    let once : EachOnce T m c.copy_order.new.table = subst (λ (k : ℕ). EachOnce T k c.copy_order.new.table) c.steps.ensures (c.copy_order.ensures.once true_at) in (
       c.requires,
       (
         omega arith,
@@ -28,9 +28,9 @@ invariant-of-self g c =
           (
             s.levels_sized,
             (
-              asks_anew s T c.copy-order.new.table (pins_of c.none-self.result) c.work-out-self.result c.work-out-self.new.marks
-                  (ordered T m c.copy-order.new.table once (omega (arith, small, long))) (range_none (pins_of c.none-self.result) T m c.none-self.ensures)
-                  c.work-out-self.ensures.begun c.work-out-self.ensures.cells,
+              asks_anew s T c.copy_order.new.table (pins_of c.none-self.result) c.work_out-self.result c.work_out-self.new.marks
+                  (ordered T m c.copy_order.new.table once (omega (arith, small, long))) (range_none (pins_of c.none-self.result) T m c.none-self.ensures)
+                  c.work_out-self.ensures.begun c.work_out-self.ensures.cells,
               tt,
             ),
           ),
@@ -46,8 +46,8 @@ returns g c =
     let o = g.R.Ranking.order c.args.ranking.now in
     let few = few_rows s.problem in
     let small : T * m ≤ 8192 = mul-le-mul c.requires few in
-    let true_at : c.copy-order.result ≡ true = c.copy-order.ensures.fits
+    let true_at : c.copy_order.result ≡ true = c.copy_order.ensures.fits
     ∙ fits_true T c.steps.result (length s.order) c.requires (omega (arith, few, c.steps.ensures))
     (subst (λ (k : ℕ). T * k ≤ length s.order) (sym c.steps.ensures) (omega (arith, small, s.order_sized))) in
-    let copied : Copied o T m s.order c.copy-order.new.table = subst (λ (k : ℕ). Copied o T k s.order c.copy-order.new.table) c.steps.ensures (c.copy-order.ensures.copied true_at) in
+    let copied : Copied o T m s.order c.copy_order.new.table = subst (λ (k : ℕ). Copied o T k s.order c.copy_order.new.table) c.steps.ensures (c.copy_order.ensures.copied true_at) in
     record { problem = refl; length = refl; ordered = copied.holds; free = c.none-self.ensures; fresh = refl }

@@ -9,8 +9,8 @@ bounds-self-place c = omega (arith, c.requires.inside, room c.args.self.now)
 pub push-depth-requires : goal.push-depth-requires
 push-depth-requires c = fits_room c.args.self.now c.args.place c.args.side c.requires
 
-pub invariant-of-self : goal.invariant-of-self
-invariant-of-self c =
+pub invariant_of-self : goal.invariant_of-self
+invariant_of-self c =
     let s = c.args.self.now in
     let here = fits_room s c.args.place c.args.side c.requires in
     let after = c.push-depth.ensures.after in (

@@ -5,8 +5,8 @@ use Rattle.marks.specs.Pinning.{pins_of, pin_of}
 use Rattle.search.proofs.Beginnings.{begins_anew, range_now, range_with}
 use Rattle.search.proofs.tables.Search.pin.Goals as goal
 
-pub invariant-of-self : goal.invariant-of-self
-invariant-of-self c =
+pub invariant_of-self : goal.invariant_of-self
+invariant_of-self c =
     let s = c.args.self.now in (
       s.short,
       (
@@ -16,9 +16,9 @@ invariant-of-self c =
           (
             s.levels_sized,
             (
-              begins_anew s (pins_of c.set.new.self) c.work-out-self.result c.work-out-self.new.marks
+              begins_anew s (pins_of c.set.new.self) c.work_out-self.result c.work_out-self.new.marks
                   (range_with (pins_of s.pins) (pins_of c.set.new.self) s.length (steps (problem_of s.problem)) c.args.cell (pin_of c.args.side) (inl c.requires) (range_now s) c.set.ensures)
-                  c.work-out-self.ensures.begun c.work-out-self.ensures.cells,
+                  c.work_out-self.ensures.begun c.work_out-self.ensures.cells,
               tt,
             ),
           ),

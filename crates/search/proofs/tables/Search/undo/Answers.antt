@@ -3,8 +3,8 @@ use Rattle.search.proofs.Searches.{newest_trail, newest_path, newest_placed, new
 use Rattle.search.specs.Levels.{path_at, entry_of}
 use Rattle.search.proofs.tables.Search.undo.Goals as goal
 
-pub invariant-of-self-2 : goal.invariant-of-self-2
-invariant-of-self-2 c =
+pub invariant_of-self-2 : goal.invariant_of-self-2
+invariant_of-self-2 c =
     let s = c.args.self.now in
     let l = c.in-ok-level.level in
     let top = c.in-ok-level.ensures.top in

@@ -5,7 +5,7 @@ use Rattle.sets.proofs.facts.FactSet.next_from.Goals as goal
 
 pub returns-then-from-lt64 : goal.returns-then-from-lt64
 unfolding fact_in
-returns-then-from-lt64 c = c.least-from.ensures
+returns-then-from-lt64 c = c.least_from.ensures
 
 pub returns-else-from-lt64 : goal.returns-else-from-lt64
 unfolding fact_in

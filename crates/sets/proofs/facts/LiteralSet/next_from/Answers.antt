@@ -5,16 +5,16 @@ use Rattle.sets.proofs.facts.LiteralSet.next_from.Goals as goal
 
 pub returns-in-None-None : goal.returns-in-None-None
 returns-in-None-None c a l =
-    let no_truth = MatchOption-at_none _ _ c.in-None-None.is-0 c.next-from-truth.ensures in
-    let no-falsity = MatchOption-at_none _ _ c.in-None-None.is-1 c.next-from-falsity.ensures in
+    let no_truth = MatchOption-at_none _ _ c.in-None-None.is-0 c.next_from-truth.ensures in
+    let no-falsity = MatchOption-at_none _ _ c.in-None-None.is-1 c.next_from-falsity.ensures in
     none_between c.args.self c.args.from (a + 1) (λ i m u. no_truth i m) (λ i m u. no-falsity i m) a l (omega arith)
 
 pub returns-in-Some-None : goal.returns-in-Some-None
 returns-in-Some-None c =
     let s = c.args.self in
     let t = c.in-Some-None.t in
-    let q = MatchOption-at_some _ _ t c.in-Some-None.is-0 c.next-from-truth.ensures in
-    let no-falsity = MatchOption-at_none _ _ c.in-Some-None.is-1 c.next-from-falsity.ensures in (
+    let q = MatchOption-at_some _ _ t c.in-Some-None.is-0 c.next_from-truth.ensures in
+    let no-falsity = MatchOption-at_none _ _ c.in-Some-None.is-1 c.next_from-falsity.ensures in (
       omega (arith, q.0),
       omega (arith, q.1),
       truth_at s t ∙ q.2,
@@ -25,8 +25,8 @@ pub returns-in-None-Some : goal.returns-in-None-Some
 returns-in-None-Some c =
     let s = c.args.self in
     let f = c.in-None-Some.f in
-    let no_truth = MatchOption-at_none _ _ c.in-None-Some.is-0 c.next-from-truth.ensures in
-    let p = MatchOption-at_some _ _ f c.in-None-Some.is-1 c.next-from-falsity.ensures in (
+    let no_truth = MatchOption-at_none _ _ c.in-None-Some.is-0 c.next_from-truth.ensures in
+    let p = MatchOption-at_some _ _ f c.in-None-Some.is-1 c.next_from-falsity.ensures in (
       omega (arith, p.0),
       omega (arith, p.1),
       falsity_at s f ∙ p.2,
@@ -38,8 +38,8 @@ returns-then-t-f c =
     let s = c.args.self in
     let t = c.in-Some-Some.t in
     let f = c.in-Some-Some.f in
-    let q = MatchOption-at_some _ _ t c.in-Some-Some.is-0 c.next-from-truth.ensures in
-    let p = MatchOption-at_some _ _ f c.in-Some-Some.is-1 c.next-from-falsity.ensures in (
+    let q = MatchOption-at_some _ _ t c.in-Some-Some.is-0 c.next_from-truth.ensures in
+    let p = MatchOption-at_some _ _ f c.in-Some-Some.is-1 c.next_from-falsity.ensures in (
       omega (arith, q.0),
       omega (arith, q.1),
       truth_at s t ∙ q.2,
@@ -51,8 +51,8 @@ returns-else-t-f c =
     let s = c.args.self in
     let t = c.in-Some-Some.t in
     let f = c.in-Some-Some.f in
-    let q = MatchOption-at_some _ _ t c.in-Some-Some.is-0 c.next-from-truth.ensures in
-    let p = MatchOption-at_some _ _ f c.in-Some-Some.is-1 c.next-from-falsity.ensures in (
+    let q = MatchOption-at_some _ _ t c.in-Some-Some.is-0 c.next_from-truth.ensures in
+    let p = MatchOption-at_some _ _ f c.in-Some-Some.is-1 c.next_from-falsity.ensures in (
       omega (arith, p.0),
       omega (arith, p.1),
       falsity_at s f ∙ p.2,

@@ -12,8 +12,8 @@ use Rattle.sheet.proofs.problem.SheetProblem.add_step.Goals as goal
 pub returns-in-Some : goal.returns-in-Some
 returns-in-Some c = inl (c.in-Some.field-0, c.in-Some.ensures, refl)
 
-pub invariant-of-self : goal.invariant-of-self
-invariant-of-self c =
+pub invariant_of-self : goal.invariant_of-self
+invariant_of-self c =
     let p = c.args.self.now in
     let a = c.in-Some-append.ensures in
     let e : map job_step c.append.new.table ≡ set (map job_step p.steps) p.count (job_step c.new-step.result) =

@@ -3,8 +3,8 @@ use Rattle.sheet.specs.Stated.{stated}
 use Rattle.sheet.specs.Stating.{named_below, below_64, starts_below, with_start}
 use Rattle.sheet.proofs.problem.SheetProblem.add_true.Goals as goal
 
-pub invariant-of-self : goal.invariant-of-self
-invariant-of-self c =
+pub invariant_of-self : goal.invariant_of-self
+invariant_of-self c =
     let p = c.args.self.now in
     let f = c.in-ok-fact.fact in (
       p.short,

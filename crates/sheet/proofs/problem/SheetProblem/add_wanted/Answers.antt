@@ -6,8 +6,8 @@ use Rattle.sheet.proofs.problem.SheetProblem.add_wanted.Goals as goal
 pub join-requires : goal.join-requires
 join-requires c = below_64 c.args.self.now c.args.name.now c.in-ok-fact.fact c.in-ok-fact.ensures
 
-pub invariant-of-self : goal.invariant-of-self
-invariant-of-self c =
+pub invariant_of-self : goal.invariant_of-self
+invariant_of-self c =
     let p = c.args.self.now in
     let f = c.in-ok-fact.fact in (
       p.short,

@@ -8,8 +8,8 @@ use Rattle.sheet.specs.Job.{JobStep}
 use Rattle.sheet.specs.Stating.{at_all}
 use Rattle.sheet.proofs.problem.SheetProblem.empty.Goals as goal
 
-pub invariant-of-result : goal.invariant-of-result
-invariant-of-result c =
+pub invariant_of-result : goal.invariant_of-result
+invariant_of-result c =
     let none : (l : Literal) → lit_in no_literals l ≡ false = λ l. subst (λ (s : LiteralSet). lit_in s l ≡ false) c.empty-2.ensures.value (c.empty-2.ensures.members l) in (
       omega arith,
       (

@@ -7,11 +7,11 @@ use Rattle.sources.proofs.filter.ReachFilter.new.Goals as goal
 pub returns : goal.returns
 returns g c =
     let p = g.S.ProblemSource.meaning c.args.below in
-    let table = c.closed-steps-closed.result in
-    let filters = filters_from p table c.closed-steps-closed.ensures in
+    let table = c.closed_steps-closed.result in
+    let filters = filters_from p table c.closed_steps-closed.ensures in
     record {
       below = refl;
-      exact = c.closed-steps-closed.ensures;
+      exact = c.closed_steps-closed.ensures;
       filters = filters;
       only = λ q f. filters_same p q (closing p table) f filters;
       plans = filter_keeps_plans p (closing p table) (g.met.S.ProblemSource.limits c.args.below) filters;

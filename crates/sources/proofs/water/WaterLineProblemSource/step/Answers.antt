@@ -7,7 +7,7 @@ use Rattle.sources.proofs.water.WaterLineProblemSource.step.Goals as goal
 pub returns-then-number-self : goal.returns-then-number-self
 returns-then-number-self c =
     let k = c.args.self.now.meters in
-    c.line-step.ensures ∙ sym (tabulate_within (2 + 7 * k) (water_step k) c.args.number closed_step c.if-number-self.true)
+    c.line_step.ensures ∙ sym (tabulate_within (2 + 7 * k) (water_step k) c.args.number closed_step c.if-number-self.true)
 
 pub returns-else-number-self : goal.returns-else-number-self
 returns-else-number-self c =
