@@ -13,8 +13,8 @@ loop-run-init c = stretch_none c.args.planner.now
 pub returns-in-err-run : goal.returns-in-err-run
 returns-in-err-run c = absurd (run_refused (ledger c.args.planner.now) c.loop-run.planner c.run.new.self (decline_number c.in-err-run.field-0.0) c.requires c.loop-run.invariant.same c.in-err-run.ensures)
 
-pub returns-in-default : goal.returns-in-default
-returns-in-default c = ran_ended (ledger c.args.planner.now) c.loop-run.planner c.run.new.self c.in-ok-run.field-0 c.requires c.loop-run.invariant.same c.in-ok-run.ensures c.in-default.not-NotYet
+pub returns-in_default : goal.returns-in_default
+returns-in_default c = ran_ended (ledger c.args.planner.now) c.loop-run.planner c.run.new.self c.in-ok-run.field-0 c.requires c.loop-run.invariant.same c.in-ok-run.ensures c.in_default.not-NotYet
 
 pub loop-run-preserved : goal.loop-run-preserved
 loop-run-preserved c =

@@ -20,8 +20,8 @@ returns-then-o-count c =
       next = omega arith;
     }
 
-pub returns-in-default : goal.returns-in-default
-returns-in-default c = record {
-  adds = steps_all (step_in c.args.set.now) c.loop-o.from c.args.count c.loop-o.invariant.2 (λ i from below. c.in-default.ensures i from) c.loop-o.invariant.0;
+pub returns-in_default : goal.returns-in_default
+returns-in_default c = record {
+  adds = steps_all (step_in c.args.set.now) c.loop-o.from c.args.count c.loop-o.invariant.2 (λ i from below. c.in_default.ensures i from) c.loop-o.invariant.0;
   next = omega arith;
 }

@@ -15,7 +15,7 @@ returns c =
     let d = c.in-ok-cell.cell in
     let w = c.in-ok-cell.ensures.cell in
     let n = c.in-ok-cell.ensures.number in
-    let free : pins_of p.search.pins t o ≡ unpinned = sym (ap (λ (u : ℕ). pins_of p.search.pins u d.step) w.0 ∙ ap (λ (u : ℕ). pins_of p.search.pins t u) w.1) ∙ c.in-default.ensures in
+    let free : pins_of p.search.pins t o ≡ unpinned = sym (ap (λ (u : ℕ). pins_of p.search.pins u d.step) w.0 ∙ ap (λ (u : ℕ). pins_of p.search.pins t u) w.1) ∙ c.in_default.ensures in
     let new = c.pin.new.self in
     record {
       number = search rules;

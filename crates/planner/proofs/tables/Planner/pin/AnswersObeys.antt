@@ -14,5 +14,5 @@ pub invariant_of-self : goal.invariant_of-self
 invariant_of-self c = (∣ tt ∣₁, tt)
 
 pub returns : goal.returns
-returns c = pin_obeys c.args.self.now _ c.args.time c.args.step c.in-ok-cell.cell c.in-ok-cell.ensures.1 refl refl c.args.taken (pin_of c.side_of.result) c.in-default.ensures
+returns c = pin_obeys c.args.self.now _ c.args.time c.args.step c.in-ok-cell.cell c.in-ok-cell.ensures.1 refl refl c.args.taken (pin_of c.side_of.result) c.in_default.ensures
     c.side_of.ensures c.pin.ensures

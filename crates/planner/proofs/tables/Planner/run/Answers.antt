@@ -2,8 +2,8 @@ use Rattle.std.proofs.Common.{refl, rules}
 use Rattle.planner.proofs.Saying.{again, ends, says}
 use Rattle.planner.proofs.tables.Planner.run.Goals as goal
 
-pub returns-in-default : goal.returns-in-default
-returns-in-default c = record { number = search rules; kept = tt; says = again c.args.self.now c.args.choices c.args.self.now.outcome refl c.in-default.not-NotYet; after = refl; same = (refl, refl) }
+pub returns-in_default : goal.returns-in_default
+returns-in_default c = record { number = search rules; kept = tt; says = again c.args.self.now c.args.choices c.args.self.now.outcome refl c.in_default.not-NotYet; after = refl; same = (refl, refl) }
 
 pub invariant_of-self : goal.invariant_of-self
 invariant_of-self c = (∣ ends c.args.self.now.search c.run-outcome.new.self c.args.choices c.run-outcome.result c.run-outcome.ensures.same c.run-outcome.ensures.ran ∣₁, tt)

@@ -13,4 +13,4 @@ pub invariant_of-self : goal.invariant_of-self
 invariant_of-self c = (∣ tt ∣₁, tt)
 
 pub returns : goal.returns
-returns c = unpin_obeys c.args.self.now _ c.args.time c.args.step c.in-ok-freed.freed c.in-ok-freed.ensures.1 refl refl c.in-default.field-0 c.in-default.ensures c.unpin.ensures
+returns c = unpin_obeys c.args.self.now _ c.args.time c.args.step c.in-ok-freed.freed c.in-ok-freed.ensures.1 refl refl c.in_default.field-0 c.in_default.ensures c.unpin.ensures

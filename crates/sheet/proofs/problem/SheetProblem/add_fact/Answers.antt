@@ -11,7 +11,7 @@ pub returns-in-Some-append : goal.returns-in-Some-append
 returns-in-Some-append c =
     let p = c.args.self.now in
     let a = c.in-Some-append.ensures in (
-      c.in-default.ensures,
+      c.in_default.ensures,
       subst (λ (n : ℕ). n < 64) (sym (facts_count p)) a.0,
       ap (with_facts (stated p)) (more fact_name p.facts c.append.new.table p.named c.in-Some-append.named _ _ (omega (arith, a.0, p.fact_room)) a.1 a.2 c.new.ensures),
     )
@@ -20,4 +20,4 @@ pub returns-in-None : goal.returns-in-None
 returns-in-None c =
     let p = c.args.self.now in
     let a = c.in-None.ensures in
-    inr (c.in-default.ensures, subst (λ (n : ℕ). 64 ≤ n) (sym (facts_count p)) a.0, refl)
+    inr (c.in_default.ensures, subst (λ (n : ℕ). 64 ≤ n) (sym (facts_count p)) a.0, refl)

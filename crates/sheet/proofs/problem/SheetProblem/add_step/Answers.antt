@@ -53,7 +53,7 @@ pub returns-in-Some-append : goal.returns-in-Some-append
 returns-in-Some-append c =
     let p = c.args.self.now in
     let a = c.in-Some-append.ensures in (
-      c.in-default.ensures,
+      c.in_default.ensures,
       subst (λ (n : ℕ). n < 256) (sym (steps_count p)) a.0,
       ap (with_steps (stated p)) (more job_step p.steps c.append.new.table p.count c.in-Some-append.count _ _ (omega (arith, a.0, p.step_room)) a.1 a.2
           (c.new-step.ensures.value ∙ ap bare c.new.ensures)),
@@ -63,4 +63,4 @@ pub returns-in-None : goal.returns-in-None
 returns-in-None c =
     let p = c.args.self.now in
     let a = c.in-None.ensures in
-    inr (c.in-default.ensures, subst (λ (n : ℕ). 256 ≤ n) (sym (steps_count p)) a.0, refl)
+    inr (c.in_default.ensures, subst (λ (n : ℕ). 256 ≤ n) (sym (steps_count p)) a.0, refl)

@@ -3,8 +3,8 @@ use Rattle.std.proofs.lemmas.Nat.{div_below}
 use Rattle.sources.specs.Bijections.{wide}
 use Rattle.sources.proofs.by_step.ByStepRanking.cell.Goals as goal
 
-pub overflow-cast-result-2 : goal.overflow-cast-result-2
-overflow-cast-result-2 c =
+pub overflow_cast-result-2 : goal.overflow_cast-result-2
+overflow_cast-result-2 c =
     let p = c.args.place in
     let h : p < c.args.times * c.args.steps = search rules in
     let k = subst (λ (n : ℕ). p < n) (mul_comm c.args.times c.args.steps) h in
