@@ -58,7 +58,7 @@ impl Entry for StepRecord {
 
 // The first record that has the name.
 pub fn first_match<E: Entry>(entries: &[E], name: &[u8]) -> Option<usize>
-    ensures { First (map (λ e. name_bytes (named e)) entries.now) name.now result }
+    ensures { First (map (λ e. name_bytes (E.named e)) entries.now) name.now result }
 {
     for (i, e) in entries.iter().enumerate() {
         if e.name().is(name) {
@@ -70,8 +70,8 @@ pub fn first_match<E: Entry>(entries: &[E], name: &[u8]) -> Option<usize>
 
 // Puts one record more behind the first `count` and answers how many there are then, or refuses where the list is full.
 pub(crate) fn append<E: Entry + Copy>(table: &mut [E], count: usize, e: E) -> Option<usize>
-    requires { length table.old ≡ limit }
-    ensures { MatchOption result ((limit ≤ count) × (table.new ≡ table.old)) (λ n. (count < limit) × (n ≡ count + 1) × (table.new ≡ slice_set table.old count e)) }
+    requires { length table.old ≡ E.limit }
+    ensures { MatchOption result ((E.limit ≤ count) × (table.new ≡ table.old)) (λ n. (count < E.limit) × (n ≡ count + 1) × (table.new ≡ slice_set table.old count e)) }
 {
     if count >= E::most() {
         return None;

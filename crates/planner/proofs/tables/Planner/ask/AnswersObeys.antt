@@ -12,4 +12,4 @@ not-fitting true h = absurd (omega arith)
 not-fitting false h = refl
 
 pub returns : goal.returns
-returns g c = ask_obeys c.args.self.now _ c.args.length _ (not-fitting (unopened (ledger c.args.self.now)) c.in-ok-opened.ensures.0) (omega arith) refl refl c.ask.ensures
+returns g c = ask_obeys c.args.self.now _ c.args.length _ (not-fitting (unopened (ledger c.args.self.now)) c.in_ok-opened.ensures.0) (omega arith) refl refl c.ask.ensures

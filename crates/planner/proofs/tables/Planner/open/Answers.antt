@@ -1,4 +1,6 @@
 use Rattle.planner.proofs.tables.Planner.open.Goals as goal
 
 pub invariant_of-self : goal.invariant_of-self
-invariant_of-self g c = (∣ tt ∣₁, tt)
+invariant_of-self g c = record {
+      ended = ∣ tt ∣₁;
+    }

@@ -5,16 +5,18 @@ use Rattle.planner.proofs.Saying.{pin_here, pin_there, asked_stage}
 use Rattle.planner.proofs.tables.Planner.pin.Goals as goal
 
 pub invariant_of-self : goal.invariant_of-self
-invariant_of-self c = (∣ tt ∣₁, tt)
+invariant_of-self c = record {
+      ended = ∣ tt ∣₁;
+    }
 
 pub returns : goal.returns
 returns c =
     let p = c.args.self.now in
     let t = c.args.time in
     let o = c.args.step in
-    let d = c.in-ok-cell.cell in
-    let w = c.in-ok-cell.ensures.cell in
-    let n = c.in-ok-cell.ensures.number in
+    let d = c.in_ok-cell.cell in
+    let w = c.in_ok-cell.ensures.cell in
+    let n = c.in_ok-cell.ensures.number in
     let free : pins_of p.search.pins t o ≡ unpinned = sym (ap (λ (u : ℕ). pins_of p.search.pins u d.step) w.0 ∙ ap (λ (u : ℕ). pins_of p.search.pins t u) w.1) ∙ c.in_default.ensures in
     let new = c.pin.new.self in
     record {

@@ -6,7 +6,9 @@ pub returns-in_default : goal.returns-in_default
 returns-in_default c = record { number = search rules; kept = tt; says = again c.args.self.now c.args.choices c.args.self.now.outcome refl c.in_default.not-NotYet; after = refl; same = (refl, refl) }
 
 pub invariant_of-self : goal.invariant_of-self
-invariant_of-self c = (∣ ends c.args.self.now.search c.run-outcome.new.self c.args.choices c.run-outcome.result c.run-outcome.ensures.same c.run-outcome.ensures.ran ∣₁, tt)
+invariant_of-self c = record {
+      ended = ∣ ends c.args.self.now.search c.run-outcome.new.self c.args.choices c.run-outcome.result c.run-outcome.ensures.same c.run-outcome.ensures.ran ∣₁;
+    }
 
 pub returns : goal.returns
 returns c = record { number = search rules; kept = tt; says = says c.args.self.now _ c.args.choices c.run-outcome.result c.run-outcome.ensures.same c.run-outcome.ensures.ran; after = refl; same = (c.run-outcome.ensures.same, refl) }

@@ -3,14 +3,16 @@ use Rattle.std.proofs.lemmas.Result.{err_from_is_err_and}
 use Rattle.planner.proofs.Obeying.{unpin_breaks, unpin_obeys}
 use Rattle.planner.proofs.tables.Planner.unpin.Goals as goal
 
-pub returns-in-err-freed : goal.returns-in-err-freed
-returns-in-err-freed c =
-    let p = err_from_is_err_and c.from-residual.result c.from-residual.ensures.1 in
-    let k = c.in-err-freed.ensures in
-    rw (p.1, p.2) (unpin_breaks c.args.self.now c.args.time c.args.step c.in-err-freed.field-0.0 k.0 k.1)
+pub returns-in_err-freed : goal.returns-in_err-freed
+returns-in_err-freed c =
+    let p = err_from_is_err_and c.from_residual.result c.from_residual.ensures.1 in
+    let k = c.in_err-freed.ensures in
+    rw (p.1, p.2) (unpin_breaks c.args.self.now c.args.time c.args.step c.in_err-freed.field-0.0 k.0 k.1)
 
 pub invariant_of-self : goal.invariant_of-self
-invariant_of-self c = (∣ tt ∣₁, tt)
+invariant_of-self c = record {
+      ended = ∣ tt ∣₁;
+    }
 
 pub returns : goal.returns
-returns c = unpin_obeys c.args.self.now _ c.args.time c.args.step c.in-ok-freed.freed c.in-ok-freed.ensures.1 refl refl c.in_default.field-0 c.in_default.ensures c.unpin.ensures
+returns c = unpin_obeys c.args.self.now _ c.args.time c.args.step c.in_ok-freed.freed c.in_ok-freed.ensures.1 refl refl c.in_default.field-0 c.in_default.ensures c.unpin.ensures

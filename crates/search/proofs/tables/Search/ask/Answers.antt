@@ -19,24 +19,15 @@ invariant_of-self g c =
     let true_at : c.copy_order.result ≡ true = c.copy_order.ensures.fits
     ∙ fits_true T c.steps.result (length s.order) c.requires (omega (arith, few, c.steps.ensures))
     (subst (λ (k : ℕ). T * k ≤ length s.order) (sym c.steps.ensures) (omega (arith, small, s.order_sized))) in
-    let once : EachOnce T m c.copy_order.new.table = subst (λ (k : ℕ). EachOnce T k c.copy_order.new.table) c.steps.ensures (c.copy_order.ensures.once true_at) in (
-      c.requires,
-      (
-        omega arith,
-        (
-          long,
-          (
-            s.levels_sized,
-            (
-              asks_anew s T c.copy_order.new.table (pins_of c.none-self.result) c.work_out-self.result c.work_out-self.new.marks
-                  (ordered T m c.copy_order.new.table once (omega (arith, small, long))) (range_none (pins_of c.none-self.result) T m c.none-self.ensures)
-                  c.work_out-self.ensures.begun c.work_out-self.ensures.cells,
-              tt,
-            ),
-          ),
-        ),
-      ),
-    )
+    let once : EachOnce T m c.copy_order.new.table = subst (λ (k : ℕ). EachOnce T k c.copy_order.new.table) c.steps.ensures (c.copy_order.ensures.once true_at) in record {
+      short = c.requires;
+      deep = omega arith;
+      order_sized = long;
+      levels_sized = s.levels_sized;
+      sound = asks_anew s T c.copy_order.new.table (pins_of c.none-self.result) c.work_out-self.result c.work_out-self.new.marks
+        (ordered T m c.copy_order.new.table once (omega (arith, small, long))) (range_none (pins_of c.none-self.result) T m c.none-self.ensures)
+        c.work_out-self.ensures.begun c.work_out-self.ensures.cells;
+    }
 
 pub returns : goal.returns
 returns g c =

@@ -13,24 +13,15 @@ pub invariant_of-self : goal.invariant_of-self
 invariant_of-self c =
     let s = c.args.self.now in
     let here = fits_room s c.args.place c.args.side c.requires in
-    let after = c.push-depth.ensures.after in (
-      s.short,
-      (
-        omega (arith, here, c.push-depth.ensures.len, s.levels_sized),
-        (
-          s.order_sized,
-          (
-            ap length after ∙ length-set s.levels s.depth _ ∙ s.levels_sized,
-            (
-              chosen s c.args.place c.args.side c.requires c.decide.new.self c.push-depth.new.levels c.push-depth.result
-                  (after ∙ ap (λ n. set s.levels s.depth (record { place = c.args.place; side = c.args.side; trail = n })) c.count-trail.ensures)
-                  c.push-depth.ensures.len (c.decide.ensures.decided (fits_time s c.args.place c.args.side c.requires)),
-              tt,
-            ),
-          ),
-        ),
-      ),
-    )
+    let after = c.push-depth.ensures.after in record {
+      short = s.short;
+      deep = omega (arith, here, c.push-depth.ensures.len, s.levels_sized);
+      order_sized = s.order_sized;
+      levels_sized = ap length after ∙ length-set s.levels s.depth _ ∙ s.levels_sized;
+      sound = chosen s c.args.place c.args.side c.requires c.decide.new.self c.push-depth.new.levels c.push-depth.result
+        (after ∙ ap (λ n. set s.levels s.depth (record { place = c.args.place; side = c.args.side; trail = n })) c.count-trail.ensures)
+        c.push-depth.ensures.len (c.decide.ensures.decided (fits_time s c.args.place c.args.side c.requires));
+    }
 
 pub returns : goal.returns
 returns c =

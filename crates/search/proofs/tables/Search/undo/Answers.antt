@@ -6,28 +6,22 @@ use Rattle.search.proofs.tables.Search.undo.Goals as goal
 pub invariant_of-self-2 : goal.invariant_of-self-2
 invariant_of-self-2 c =
     let s = c.args.self.now in
-    let l = c.in-ok-level.level in
-    let top = c.in-ok-level.ensures.top in
+    let l = c.in_ok-level.level in
+    let top = c.in_ok-level.ensures.top in
     let same = c.pop.ensures.same in
-    let ret = c.retreat.ensures.back (newest_trail s l top.0 top.1) in (
-      s.short,
-      (
-        omega (arith, s.deep),
-        (
-          s.order_sized,
-          (
-            ap length same ∙ s.levels_sized,
-            (undone s l top.0 top.1 c.retreat.new.self ret c.pop.new.levels same, tt),
-          ),
-        ),
-      ),
-    )
+    let ret = c.retreat.ensures.back (newest_trail s l top.0 top.1) in record {
+      short = s.short;
+      deep = omega (arith, s.deep);
+      order_sized = s.order_sized;
+      levels_sized = ap length same ∙ s.levels_sized;
+      sound = undone s l top.0 top.1 c.retreat.new.self ret c.pop.new.levels same;
+    }
 
 pub returns : goal.returns
 returns c =
     let s = c.args.self.now in
-    let l = c.in-ok-level.level in
-    let top = c.in-ok-level.ensures.top in
+    let l = c.in_ok-level.level in
+    let top = c.in_ok-level.ensures.top in
     let same = c.pop.ensures.same in
     let ret = c.retreat.ensures.back (newest_trail s l top.0 top.1) in
     record {

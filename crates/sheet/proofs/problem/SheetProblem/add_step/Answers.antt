@@ -17,37 +17,18 @@ invariant_of-self c =
     let p = c.args.self.now in
     let a = c.in-Some-append.ensures in
     let e : map job_step c.append.new.table ≡ set (map job_step p.steps) p.count (job_step c.new-step.result) =
-    ap (map job_step) a.2 ∙ map-set job_step p.steps p.count c.new-step.result in (
-      p.short,
-      (
-        p.few_facts,
-        (
-          omega (arith, a.0, a.1),
-          (
-            p.fact_room,
-            (
-              ap length a.2 ∙ length-set p.steps p.count c.new-step.result ∙ p.step_room,
-              (
-                p.start_in,
-                (
-                  p.goal_in,
-                  (
-                    p.goal_agrees,
-                    (
-                      subst (NeedsBelow p.named) (sym e) (at_set (λ (s : JobStep). LiteralsBelow p.named s.needs) _ _ _ (λ l h. absurd (both_ways _ (c.new-step.ensures.needs l) h)) p.needs_in),
-                      (
-                        subst (MakesBelow p.named) (sym e) (at_set (λ (s : JobStep). LiteralsBelow p.named s.makes) _ _ _ (λ l h. absurd (both_ways _ (c.new-step.ensures.makes l) h)) p.makes_in),
-                        tt,
-                      ),
-                    ),
-                  ),
-                ),
-              ),
-            ),
-          ),
-        ),
-      ),
-    )
+    ap (map job_step) a.2 ∙ map-set job_step p.steps p.count c.new-step.result in record {
+      short = p.short;
+      few_facts = p.few_facts;
+      few_steps = omega (arith, a.0, a.1);
+      fact_room = p.fact_room;
+      step_room = ap length a.2 ∙ length-set p.steps p.count c.new-step.result ∙ p.step_room;
+      start_in = p.start_in;
+      goal_in = p.goal_in;
+      goal_agrees = p.goal_agrees;
+      needs_in = subst (NeedsBelow p.named) (sym e) (at_set (λ (s : JobStep). LiteralsBelow p.named s.needs) _ _ _ (λ l h. absurd (both_ways _ (c.new-step.ensures.needs l) h)) p.needs_in);
+      makes_in = subst (MakesBelow p.named) (sym e) (at_set (λ (s : JobStep). LiteralsBelow p.named s.makes) _ _ _ (λ l h. absurd (both_ways _ (c.new-step.ensures.makes l) h)) p.makes_in);
+    }
 
 pub returns-in-Some-append : goal.returns-in-Some-append
 returns-in-Some-append c =
