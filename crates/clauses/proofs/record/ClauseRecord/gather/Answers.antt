@@ -27,7 +27,7 @@ loop-a-preserved c =
 pub returns : goal.returns
 returns c =
     let inv = c.loop-a.invariant in
-    let e = c.in-default.ensures in
+    let e = c.in_default.ensures in
     record {
       facts = e.facts ∙ inv.0;
       pairs = e.pairs ∙ inv.1;
