@@ -1,4 +1,4 @@
-use Rattle.std.proofs.Common.{◌⊎◌, sym, ◌∙◌, ⊎_elim}
+use Rattle.std.proofs.Common.{sym, ◌∙◌, ⊎_elim}
 use Rattle.std.proofs.lemmas.Bool.{or_parts, eqb-false}
 use Rattle.clauses.proofs.Waits.{caught_more, insert_has, insert_keeps, none_held}
 use Rattle.clauses.proofs.record.ClauseRecord.gather.Goals as goal
