@@ -5,7 +5,6 @@ use Rattle.std.proofs.lemmas.Bool.Decides.{nat_tests}
 use Rattle.sets.specs.Literals.{Literal, pos, neg, fact, code, lit}
 use Rattle.model.specs.Problems.{Problem, value, start_state}
 use Rattle.clauses.specs.Striking.{Good}
-use Rattle.sets.specs.Has.{has}
 use Rattle.sets.specs.Sets.{fact_in, lit_in, no_literals}
 use Rattle.sets.proofs.Bits.{has_zero}
 use Rattle.sets.proofs.Literals.{code_lit, lit_code}

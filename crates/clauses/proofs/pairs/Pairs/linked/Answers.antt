@@ -1,4 +1,4 @@
-use Rattle.std.proofs.Common.{◌≡◌, true, ◌⊎◌, sym, ◌∙◌, ⊎_elim, arith}
+use Rattle.std.proofs.Common.{◌≡◌, true, sym, ◌∙◌, ⊎_elim, arith}
 use Rattle.std.proofs.lemmas.Bool.{or_cases, or_left, or_right}
 use Rattle.sets.specs.Literals.{Literal, lit}
 use Rattle.sets.specs.Sets.{lit_in}
@@ -25,4 +25,4 @@ loop-a-preserved c =
 pub returns : goal.returns
 returns c =
     let inv = c.loop-a.invariant in
-    record { some = inv.0; all = λ k l m h. inv.1 k (walk_end c.args.set c.loop-a.from c.in-default.ensures k m) m l h }
+    record { some = inv.0; all = λ k l m h. inv.1 k (walk_end c.args.set c.loop-a.from c.in_default.ensures k m) m l h }

@@ -1,4 +1,4 @@
-use Rattle.std.proofs.Common.{◌⊎◌, sym, ◌∙◌, ⊎_elim}
+use Rattle.std.proofs.Common.{sym, ◌∙◌, ⊎_elim}
 use Rattle.std.proofs.lemmas.Bool.{or_parts, eqb-false}
 use Rattle.clauses.proofs.Waits.{caught_more, insert_has, insert_keeps, none_held}
 use Rattle.clauses.proofs.record.ClauseRecord.gather.Goals as goal
@@ -27,7 +27,7 @@ loop-a-preserved c =
 pub returns : goal.returns
 returns c =
     let inv = c.loop-a.invariant in
-    let e = c.in-default.ensures in
+    let e = c.in_default.ensures in
     record {
       facts = e.facts ∙ inv.0;
       pairs = e.pairs ∙ inv.1;

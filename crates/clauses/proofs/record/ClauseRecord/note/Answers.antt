@@ -1,4 +1,4 @@
-use Rattle.std.proofs.Common.{◌≡◌, ℕ, ◌+◌, true, false, List, [], ◌∷◌, ◌++◌, take, refl, ap, ◌∙◌, ap₂}
+use Rattle.std.proofs.Common.{◌≡◌, ℕ, true, false, List, [], ◌∷◌, ◌++◌, take, refl, ap, ◌∙◌, ap₂}
 use Rattle.std.proofs.lemmas.Bool.{both_ways, cond-false}
 use Rattle.clauses.proofs.Waits.{held_more, held_last, held_same, resumes}
 use Rattle.clauses.proofs.record.ClauseRecord.note.Goals as goal

@@ -27,4 +27,4 @@ loop-b-preserved c =
 pub returns : goal.returns
 returns c =
     let inv = c.loop-b.invariant in
-    record { struck = inv.0; done = λ x m. inv.1 x (walk_end c.args.gone c.loop-b.from c.in-default.ensures x m) m }
+    record { struck = inv.0; done = λ x m. inv.1 x (walk_end c.args.gone c.loop-b.from c.in_default.ensures x m) m }

@@ -28,4 +28,4 @@ loop-a-preserved c =
 pub returns : goal.returns
 returns c =
     let inv = c.loop-a.invariant in
-    record { struck = inv.0; done = λ k m. inv.1 k (walk_end c.args.undone c.loop-a.from c.in-default.ensures k m) m }
+    record { struck = inv.0; done = λ k m. inv.1 k (walk_end c.args.undone c.loop-a.from c.in_default.ensures k m) m }
