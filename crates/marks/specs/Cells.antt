@@ -1,5 +1,5 @@
 -- The marks of the cells, apart from their trail. Assumes nothing.
-use Rattle.std.specs.Prelude.{◌≡◌, ℕ, ◌<◌, Bool, false, slice_index_or}
+use Rattle.std.specs.Prelude.{◌≡◌, ◌<◌, Bool, false, slice_index_or}
 use Rattle.sets.specs.Sets.{step_in, no_steps}
 use Rattle.model.specs.declared.cell.Cell.{Cell}
 use Rattle.model.specs.declared.path.Side.{Side}

@@ -6,7 +6,7 @@ use Rattle.marks.proofs.build.add_columns.Goals as goal
 pub returns : goal.returns
 returns c =
     let inv = c.loop-l.invariant.0 in let far = c.loop-l.invariant.1 in
-    let below : (l : ℕ) → number_in c.args.row l ≡ true → l < c.loop-l.from = λ l m. ⊎_elim (λ h. h) (λ h. absurd (both_ways _ (c.in-default.ensures l h) m)) (cases_lt l c.loop-l.from) in
+    let below : (l : ℕ) → number_in c.args.row l ≡ true → l < c.loop-l.from = λ l m. ⊎_elim (λ h. h) (λ h. absurd (both_ways _ (c.in_default.ensures l h) m)) (cases_lt l c.loop-l.from) in
     record {
       columned = record {
         kept = inv.kept;

@@ -10,7 +10,7 @@ bounds-columns-opposite_literal c = subst (λ (k : ℕ). k < 128) (sym c.opposit
 pub returns : goal.returns
 returns c =
     let inv = c.loop-l.invariant.0 in let far = c.loop-l.invariant.1 in
-    let below : (l : ℕ) → number_in c.args.literals l ≡ true → l < c.loop-l.from = λ l m. ⊎_elim (λ h. h) (λ h. absurd (both_ways _ (c.in-default.ensures l h) m)) (cases_lt l c.loop-l.from) in
+    let below : (l : ℕ) → number_in c.args.literals l ≡ true → l < c.loop-l.from = λ l m. ⊎_elim (λ h. h) (λ h. absurd (both_ways _ (c.in_default.ensures l h) m)) (cases_lt l c.loop-l.from) in
     record {
       gathered = record {
         there = λ l i h m k. inv.there l i (below l m) m k;

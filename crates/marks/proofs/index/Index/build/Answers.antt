@@ -8,7 +8,7 @@ use Rattle.marks.proofs.Made.{needs_are, makes_are, needers_are, rival_interfere
 use Rattle.marks.proofs.index.Index.build.Goals as goal
 
 pub invariant_of-self : goal.invariant_of-self
-invariant_of-self c = (c.transpose-2.ensures, tt)
+invariant_of-self c = record { makers_are = c.transpose-2.ensures }
 
 pub returns : goal.returns
 returns c =

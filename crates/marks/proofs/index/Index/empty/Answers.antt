@@ -4,7 +4,7 @@ use Rattle.marks.proofs.Empties.{no_member, no_number}
 use Rattle.marks.proofs.index.Index.empty.Goals as goal
 
 pub invariant_of-result : goal.invariant_of-result
-invariant_of-result c = ((λ i l. no_number c.empty-2.result c.empty-2.ensures.members 256 i l ∙ sym (no_member c.empty-4.result c.empty-4.ensures 128 l i)), tt)
+invariant_of-result c = record { makers_are = (λ i l. no_number c.empty-2.result c.empty-2.ensures.members 256 i l ∙ sym (no_member c.empty-4.result c.empty-4.ensures 128 l i)) }
 
 pub returns : goal.returns
 returns c = record {

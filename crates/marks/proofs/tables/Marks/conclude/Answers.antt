@@ -38,12 +38,12 @@ returns-in-Some c =
     (only_left ix m c.args.t c.args.l c.minus-rest.result c.minus-rest.ensures o only
     (sym c.requires.before ∙ c.if-was_false.true) (sym c.requires.after ∙ c.if-turns_true.true)))
 
-pub returns-in-default : goal.returns-in-default
-returns-in-default c =
+pub returns-in_default : goal.returns-in_default
+returns-in_default c =
     let ix = c.args.ix.now in let m = c.args.self.now in
     let s = c.if-is_empty.ensures in
     added_nothing m (λ y q. let w = where_some ix m c.args.t c.args.l c.minus-rest.result c.minus-rest.ensures s.0 s.2 y q in
-    c.in-default.ensures w.0 w.1)
+    c.in_default.ensures w.0 w.1)
 
 pub returns-else-was_false : goal.returns-else-was_false
 returns-else-was_false c =

@@ -96,19 +96,16 @@ invariant_of-self-in-Fact c =
     let top = top_is m.trail c.resume-trail.result.table.now m.len c.resume-trail.result.len (omega (arith, m.room, m.sized)) s.table s.len
     r c.pop-top.new.self.len x (Fact 0 0) (omega (arith, c.requires.some)) p.table p.len c.in-Some.ensures.held in
     let er = p.table ∙ s.table in let en : n ≡ m.len - 1 = omega (arith, c.len-self.ensures, p.len, s.len, m.room, m.sized) in
-    let e = now-fact m x c.in-Fact.t c.in-Fact.l c.strike_literal.new.table c.strike_literal.ensures c.in-Fact.is in (
-      ap length er ∙ m.sized,
-      (
-        m.short,
-        (
-          small-less m x c.requires.some top r n er en,
-          (
-            passed-less m x c.requires.some top r n er en,
-            (listed-less m x c.requires.some top r n er en _ _ _ e, (ranged-less m x c.requires.some top r n er en, (apart-less m x c.requires.some top r n er en, tt))),
-          ),
-        ),
-      ),
-    )
+    let e = now-fact m x c.in-Fact.t c.in-Fact.l c.strike_literal.new.table c.strike_literal.ensures c.in-Fact.is in
+    record {
+      sized = ap length er ∙ m.sized;
+      short = m.short;
+      room = small-less m x c.requires.some top r n er en;
+      passed = passed-less m x c.requires.some top r n er en;
+      listed = listed-less m x c.requires.some top r n er en _ _ _ e;
+      ranged = ranged-less m x c.requires.some top r n er en;
+      apart = apart-less m x c.requires.some top r n er en;
+    }
 
 pub strike-requires : goal.strike-requires
 strike-requires c =
@@ -127,19 +124,16 @@ invariant_of-self-in-Taken c =
     let top = top_is m.trail c.resume-trail.result.table.now m.len c.resume-trail.result.len (omega (arith, m.room, m.sized)) s.table s.len
     r c.pop-top.new.self.len x (Fact 0 0) (omega (arith, c.requires.some)) p.table p.len c.in-Some.ensures.held in
     let er = p.table ∙ s.table in let en : n ≡ m.len - 1 = omega (arith, c.len-self.ensures, p.len, s.len, m.room, m.sized) in
-    let e = now-taken m x c.in-Taken.t c.in-Taken.o c.strike.new.table c.strike.ensures c.in-Taken.is in (
-      ap length er ∙ m.sized,
-      (
-        m.short,
-        (
-          small-less m x c.requires.some top r n er en,
-          (
-            passed-less m x c.requires.some top r n er en,
-            (listed-less m x c.requires.some top r n er en _ _ _ e, (ranged-less m x c.requires.some top r n er en, (apart-less m x c.requires.some top r n er en, tt))),
-          ),
-        ),
-      ),
-    )
+    let e = now-taken m x c.in-Taken.t c.in-Taken.o c.strike.new.table c.strike.ensures c.in-Taken.is in
+    record {
+      sized = ap length er ∙ m.sized;
+      short = m.short;
+      room = small-less m x c.requires.some top r n er en;
+      passed = passed-less m x c.requires.some top r n er en;
+      listed = listed-less m x c.requires.some top r n er en _ _ _ e;
+      ranged = ranged-less m x c.requires.some top r n er en;
+      apart = apart-less m x c.requires.some top r n er en;
+    }
 
 pub strike-requires-in-LeftOut : goal.strike-requires-in-LeftOut
 strike-requires-in-LeftOut c =
@@ -158,16 +152,13 @@ invariant_of-self-in-LeftOut c =
     let top = top_is m.trail c.resume-trail.result.table.now m.len c.resume-trail.result.len (omega (arith, m.room, m.sized)) s.table s.len
     r c.pop-top.new.self.len x (Fact 0 0) (omega (arith, c.requires.some)) p.table p.len c.in-Some.ensures.held in
     let er = p.table ∙ s.table in let en : n ≡ m.len - 1 = omega (arith, c.len-self.ensures, p.len, s.len, m.room, m.sized) in
-    let e = now-left m x c.in-LeftOut.t c.in-LeftOut.o c.strike-in-LeftOut.new.table c.strike-in-LeftOut.ensures c.in-LeftOut.is in (
-      ap length er ∙ m.sized,
-      (
-        m.short,
-        (
-          small-less m x c.requires.some top r n er en,
-          (
-            passed-less m x c.requires.some top r n er en,
-            (listed-less m x c.requires.some top r n er en _ _ _ e, (ranged-less m x c.requires.some top r n er en, (apart-less m x c.requires.some top r n er en, tt))),
-          ),
-        ),
-      ),
-    )
+    let e = now-left m x c.in-LeftOut.t c.in-LeftOut.o c.strike-in-LeftOut.new.table c.strike-in-LeftOut.ensures c.in-LeftOut.is in
+    record {
+      sized = ap length er ∙ m.sized;
+      short = m.short;
+      room = small-less m x c.requires.some top r n er en;
+      passed = passed-less m x c.requires.some top r n er en;
+      listed = listed-less m x c.requires.some top r n er en _ _ _ e;
+      ranged = ranged-less m x c.requires.some top r n er en;
+      apart = apart-less m x c.requires.some top r n er en;
+    }

@@ -87,19 +87,16 @@ invariant_of-self c =
     let w = pushed m.trail c.resume-trail.result.table.now m.len c.resume-trail.result.len (omega (arith, room_in m x a b d)) s.table s.len
     r c.push.new.self.len c.push.result x (room_in m x a b d) p.fits p.table p.len in
     let en = c.len-self.ensures ∙ w.1 in
-    let e = now-fact m x c.in-Fact.t c.in-Fact.l c.enter_literal.new.table c.enter_literal.ensures c.in-Fact.is in (
-      sized_on m x a b d r n w.0 en,
-      (
-        m.short,
-        (
-          small-on m x a b d r n w.0 en,
-          (
-            passed_on m x a b d r n w.0 en,
-            (listed-on m x a b d r n w.0 en _ _ _ e, (ranged-on m x a b d r n w.0 en, (apart-on m x a b d r n w.0 en, tt))),
-          ),
-        ),
-      ),
-    )
+    let e = now-fact m x c.in-Fact.t c.in-Fact.l c.enter_literal.new.table c.enter_literal.ensures c.in-Fact.is in
+    record {
+      sized = sized_on m x a b d r n w.0 en;
+      short = m.short;
+      room = small-on m x a b d r n w.0 en;
+      passed = passed_on m x a b d r n w.0 en;
+      listed = listed-on m x a b d r n w.0 en _ _ _ e;
+      ranged = ranged-on m x a b d r n w.0 en;
+      apart = apart-on m x a b d r n w.0 en;
+    }
 
 pub returns-in-Fact : goal.returns-in-Fact
 unfolding EnteredL
@@ -126,19 +123,16 @@ invariant_of-self-in-Taken c =
     let w = pushed m.trail c.resume-trail.result.table.now m.len c.resume-trail.result.len (omega (arith, room_in m x a b d)) s.table s.len
     r c.push.new.self.len c.push.result x (room_in m x a b d) p.fits p.table p.len in
     let en = c.len-self.ensures ∙ w.1 in
-    let e = now-taken m x c.in-Taken.t c.in-Taken.o c.enter.new.table c.enter.ensures c.in-Taken.is in (
-      sized_on m x a b d r n w.0 en,
-      (
-        m.short,
-        (
-          small-on m x a b d r n w.0 en,
-          (
-            passed_on m x a b d r n w.0 en,
-            (listed-on m x a b d r n w.0 en _ _ _ e, (ranged-on m x a b d r n w.0 en, (apart-on m x a b d r n w.0 en, tt))),
-          ),
-        ),
-      ),
-    )
+    let e = now-taken m x c.in-Taken.t c.in-Taken.o c.enter.new.table c.enter.ensures c.in-Taken.is in
+    record {
+      sized = sized_on m x a b d r n w.0 en;
+      short = m.short;
+      room = small-on m x a b d r n w.0 en;
+      passed = passed_on m x a b d r n w.0 en;
+      listed = listed-on m x a b d r n w.0 en _ _ _ e;
+      ranged = ranged-on m x a b d r n w.0 en;
+      apart = apart-on m x a b d r n w.0 en;
+    }
 
 pub returns-in-Taken : goal.returns-in-Taken
 unfolding Entered
@@ -165,19 +159,16 @@ invariant_of-self-in-LeftOut c =
     let w = pushed m.trail c.resume-trail.result.table.now m.len c.resume-trail.result.len (omega (arith, room_in m x a b d)) s.table s.len
     r c.push.new.self.len c.push.result x (room_in m x a b d) p.fits p.table p.len in
     let en = c.len-self.ensures ∙ w.1 in
-    let e = now-left m x c.in-LeftOut.t c.in-LeftOut.o c.enter-in-LeftOut.new.table c.enter-in-LeftOut.ensures c.in-LeftOut.is in (
-      sized_on m x a b d r n w.0 en,
-      (
-        m.short,
-        (
-          small-on m x a b d r n w.0 en,
-          (
-            passed_on m x a b d r n w.0 en,
-            (listed-on m x a b d r n w.0 en _ _ _ e, (ranged-on m x a b d r n w.0 en, (apart-on m x a b d r n w.0 en, tt))),
-          ),
-        ),
-      ),
-    )
+    let e = now-left m x c.in-LeftOut.t c.in-LeftOut.o c.enter-in-LeftOut.new.table c.enter-in-LeftOut.ensures c.in-LeftOut.is in
+    record {
+      sized = sized_on m x a b d r n w.0 en;
+      short = m.short;
+      room = small-on m x a b d r n w.0 en;
+      passed = passed_on m x a b d r n w.0 en;
+      listed = listed-on m x a b d r n w.0 en _ _ _ e;
+      ranged = ranged-on m x a b d r n w.0 en;
+      apart = apart-on m x a b d r n w.0 en;
+    }
 
 pub returns-in-LeftOut : goal.returns-in-LeftOut
 unfolding Entered

@@ -3,19 +3,12 @@ use Rattle.marks.proofs.Empties.{listed_none}
 use Rattle.marks.proofs.tables.Marks.wipe.Goals as goal
 
 pub invariant_of-self : goal.invariant_of-self
-invariant_of-self c = (
-  c.args.self.now.sized,
-  (
-    c.requires,
-    (
-      omega arith,
-      (
-        omega arith,
-        (
-          listed_none c.empty-self.result c.empty-self-2.result c.empty-self-3.result c.empty-self.ensures.members c.empty-self-2.ensures c.empty-self-3.ensures c.args.self.now.trail,
-          ((λ i h. absurd (omega arith)), ((λ i j h k. absurd (omega arith)), tt)),
-        ),
-      ),
-    ),
-  ),
-)
+invariant_of-self c = record {
+  sized = c.args.self.now.sized;
+  short = c.requires;
+  room = omega arith;
+  passed = omega arith;
+  listed = listed_none c.empty-self.result c.empty-self-2.result c.empty-self-3.result c.empty-self.ensures.members c.empty-self-2.ensures c.empty-self-3.ensures c.args.self.now.trail;
+  ranged = λ i h. absurd (omega arith);
+  apart = λ i j h k. absurd (omega arith);
+}
