@@ -8,7 +8,7 @@ use Rattle.search.proofs.tables.Search.new.Goals as goal
 
 pub invariant_of-result : goal.invariant_of-result
 invariant_of-result c =
-    let t = c.empty_problem.result in record {
+    let t = c.empty-problem.result in record {
       short = omega arith;
       deep = omega arith;
       order_sized = c.no_order.ensures;
