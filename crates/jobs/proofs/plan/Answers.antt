@@ -12,6 +12,6 @@ returns c =
     let w = c.new-filter.ensures in
     let F = closing (problem_in (stated c.new-filter.result.below)) c.new-filter.result.closed in
     let e = ask_left j F (lawful none_in c.args.problem) w.filters.steps_same w.plans c.args.planner.now c.open.new.self c.ask.new.self c.length-length.result
-    c.length-length.ensures.value c.length-length.ensures.within c.open.ensures c.in_ok-ask.ensures in
+    c.length-length.ensures.value c.length-length.ensures.within c.open.ensures.obeys c.in_ok-ask.ensures.obeys in
     job_answered j F (lawful none_in c.args.problem) w.filters.steps_same w.plans c.ask.new.self c.run_out.new.planner c.args.out.now c.report.new.out c.report.result
-    w.filters e c.in_ok-run_out.ensures c.report.ensures
+    w.filters e c.in_ok-run_out.ensures c.report.ensures.obeys

@@ -11,15 +11,15 @@ pub loop-run-init : goal.loop-run-init
 loop-run-init c = stretch_none c.args.planner.now
 
 pub returns-in_err-run : goal.returns-in_err-run
-returns-in_err-run c = absurd (run_refused (ledger c.args.planner.now) c.loop-run.planner c.run.new.self (decline_number c.in_err-run.field-0.0) c.requires c.loop-run.invariant.same c.in_err-run.ensures)
+returns-in_err-run c = absurd (run_refused (ledger c.args.planner.now) c.loop-run.planner c.run.new.self (decline_number c.in_err-run.field-0.0) c.requires c.loop-run.invariant.same c.in_err-run.ensures.obeys)
 
 pub returns-in_default : goal.returns-in_default
-returns-in_default c = ran_ended (ledger c.args.planner.now) c.loop-run.planner c.run.new.self c.in_ok-run.field-0 c.requires c.loop-run.invariant.same c.in_ok-run.ensures c.in_default.not-NotYet
+returns-in_default c = ran_ended (ledger c.args.planner.now) c.loop-run.planner c.run.new.self c.in_ok-run.field-0 c.requires c.loop-run.invariant.same c.in_ok-run.ensures.obeys c.in_default.not-NotYet
 
 pub loop-run-preserved : goal.loop-run-preserved
 loop-run-preserved c =
     stretch_more (ledger c.args.planner.now) c.loop-run.planner c.run.new.self c.loop-run.run c.requires c.loop-run.invariant
-    (subst (λ (x : Outcome). Obeys c.loop-run.planner (run_call 1000000 (answered (outcome_number x))) c.run.new.self) c.in-NotYet.is c.in_ok-run.ensures)
+    (subst (λ (x : Outcome). Obeys c.loop-run.planner (run_call 1000000 (answered (outcome_number x))) c.run.new.self) c.in-NotYet.is c.in_ok-run.ensures.obeys)
 
 pub returns : goal.returns
 returns c =
