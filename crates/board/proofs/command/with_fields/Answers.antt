@@ -8,12 +8,12 @@ returns-in-empty c =
     let n : length c.args.fields.now ≡ 0 = search rules in
     record { word = search rules; fields = none_told c.args.fields.now n }
 
-pub returns-in_err-choices : goal.returns-in_err-choices
-returns-in_err-choices c =
-    rw c.from_residual-in_err-choices.ensures (λ x p.
-    let n = counted x _ (ap counts (p.word ∙ c.in-Run.is)) p.fields in c.in_err-choices.ensures n.0 n.1)
+pub returns-in_err-choices-in-Run : goal.returns-in_err-choices-in-Run
+returns-in_err-choices-in-Run c =
+    rw c.from_residual-in_err-choices-in-Run.ensures (λ x p.
+    let n = counted x _ (ap counts (p.word ∙ c.in-Run.is)) p.fields in c.in_err-choices-in-Run.ensures n.0 n.1)
 
-pub returns-in_err-place : goal.returns-in_err-place
-returns-in_err-place c =
-    rw c.from_residual-in_err-place.ensures (λ x p.
-    let n = counted x _ (ap counts (p.word ∙ c.in-Path.is)) p.fields in c.in_err-place.ensures n.0 n.1)
+pub returns-in_err-place-in-Path : goal.returns-in_err-place-in-Path
+returns-in_err-place-in-Path c =
+    rw c.from_residual-in_err-place-in-Path.ensures (λ x p.
+    let n = counted x _ (ap counts (p.word ∙ c.in-Path.is)) p.fields in c.in_err-place-in-Path.ensures n.0 n.1)
