@@ -113,6 +113,10 @@ module _ (j : Job) (F : Problem) (well : WellFormed (problem_in j)) (count : ste
       ∙ ap (λ (b : Bool). cond (eqb (cond b 23 0) 0) (enter (opened F) (ask_call T forward (answered tt))) (opened F)) (le-ltb 32 T l)
       ∙ asked_same refl e (ap (λ (m : ℕ). cells_upto (forward.cell T m) (T * m)) count ∙ ap (λ (t : ℕ). cells_upto (forward.cell t (step_count j)) (t * step_count j)) e) refl refl
 
+  -- so runs may begin
+  pub begun_then : (p : Planner) → ledger p ≡ job_ledger j F 0 → Begun (ledger p)
+  begun_then p e = subst Begun (sym e) (record { known = refl; fresh = refl })
+
   -- what a report then writes
   pub job_answered : (p q : Planner) (out out' : List ℕ) (r : Result ℕ Decline) → Filters (problem_in j) F → ledger p ≡ job_ledger j F 0 → RanOut (ledger p) q
       → Obeys q (report_call out (reply (λ n. n) r) out') q → JobAnswered j out r out' q

@@ -23,8 +23,7 @@ const CHOICES: u32 = 1000000;
 
 // Runs the planner until it has an answer or the grant is used up.
 fn run_out(planner: &mut Planner) -> Result<(), Decline>
-    requires { Begun (ledger planner.old) }
-    ensures { MatchResult result (λ _. RanOut (ledger planner.old) planner.new) (λ _. ⊥) }
+    ensures { Begun (ledger planner.old) → MatchResult result (λ _. RanOut (ledger planner.old) planner.new) (λ _. ⊥) }
 {
     for run in 0..RUNS {
         match planner.run(CHOICES)? {

@@ -1,7 +1,7 @@
 use Rattle.std.proofs.Common.{◌*◌}
 use Rattle.planner.specs.Obeys.{ledger}
-use Rattle.jobs.specs.Running.{Stretch}
+use Rattle.jobs.specs.Running.{Begun, Stretch}
 use Rattle.jobs.proofs.run_out.Given as goal
 
 abbrev pub invariant-loop-run : goal.invariant-loop-run
-invariant-loop-run l = Stretch (ledger l.initial.planner) (l.run * 1000000) l.planner
+invariant-loop-run l = Begun (ledger l.initial.planner) → Stretch (ledger l.initial.planner) (l.run * 1000000) l.planner
