@@ -1,5 +1,5 @@
 -- What a line adds to a job is one thing, why it may not be added is one thing, and never are there both.
-use Rattle.std.proofs.Common.{◌≡◌, ℕ, ◌<◌, ◌≤◌, Bool, true, false, ◌⊎◌, List, [], length as size, get_or, sym, ap, ◌∙◌, subst, ⊎_elim, arith}
+use Rattle.std.proofs.Common.{◌≡◌, ℕ, ◌≤◌, Bool, true, false, ◌⊎◌, List, length as size, sym, ap, ◌∙◌, subst, ⊎_elim, arith}
 use Rattle.std.proofs.lemmas.Bool.{both_ways, cases_order}
 use Rattle.sets.specs.Sets.{fact_in}
 use Rattle.sheet.specs.Statement.{Statement, version, length, fact, holds, wanted, step, need, make}

@@ -1,9 +1,7 @@
 -- A line at fault has one fault, and a line that may stand has none.
-use Rattle.std.proofs.Common.{◌≡◌, ℕ, true, false, List, [], ◌∷◌, ◌++◌, Option, sym, ap, ◌∙◌, subst}
+use Rattle.std.proofs.Common.{◌≡◌, ℕ, true, false, List, Option, sym, ap, ◌∙◌, subst}
 use Rattle.std.proofs.lemmas.Bool.{both_ways}
 use Rattle.sheet.specs.Statement.{Statement, kind_stated}
-use Rattle.sheet.specs.Cut.{LineWrong}
-use Rattle.sheet.specs.declared.fault.LineFault.{LineFault}
 use Rattle.sheet.specs.declared.kind.LineKind.{LineKind}
 use Rattle.sheet.proofs.FirstLine.{one_line, one_line_fault, no_line_fault}
 use Rattle.sheet.specs.Job.{Job, Adds, Flawed, field}

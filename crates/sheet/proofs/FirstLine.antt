@@ -1,9 +1,9 @@
 -- Bytes have at most one first line, it states at most one thing, and it has a fault only where it states nothing.
-use Rattle.std.proofs.Common.{◌≡◌, ℕ, ◌+◌, ◌<◌, ◌⊎◌, List, [], ◌∷◌, ◌++◌, length, get_or, take, sym, refl, ap, ◌∙◌, subst, inl, inr, ⊎_elim, arith}
+use Rattle.std.proofs.Common.{◌≡◌, ℕ, ◌+◌, List, ◌∷◌, ◌++◌, length, get_or, take, sym, ap, ◌∙◌, subst, ⊎_elim, arith}
 use Rattle.std.proofs.lemmas.List.{append_cancel_left}
 use Rattle.std.proofs.lemmas.Bool.{cases_order}
 use Rattle.sheet.specs.Class.{class_told}
-use Rattle.sheet.specs.Cut.{Clean, Begins, ByteWrong, LineWrong}
+use Rattle.sheet.specs.Cut.{Begins, ByteWrong, LineWrong}
 use Rattle.sheet.specs.Statement.{Statement, Proper, print}
 use Rattle.sheet.specs.declared.class.ByteClass.{ByteClass}
 use Rattle.sheet.specs.declared.class.ByteClass.TheVariants.{LineFeed, Other}

@@ -1,5 +1,5 @@
 -- What one more line keeps.
-use Rattle.std.proofs.Common.{◌≡◌, ℕ, ◌+◌, ◌<◌, ◌≤◌, true, false, eqb, ◌⊎◌, List, [], ◌∷◌, ◌++◌, length, get_or, take, drop, Some, None, Ok, Err, Option, Result, sym, refl, ap, ◌∙◌, subst, inl, inr, ⊎_elim, arith, length-append, take-append-drop, MatchResult}
+use Rattle.std.proofs.Common.{◌≡◌, ℕ, ◌+◌, ◌<◌, ◌≤◌, true, false, eqb, ◌⊎◌, List, [], ◌∷◌, ◌++◌, length, drop, Some, None, Ok, Err, Option, Result, sym, refl, ap, ◌∙◌, subst, inl, inr, ⊎_elim, arith, length-append, take-append-drop, MatchResult}
 use Rattle.sheet.specs.declared.fault.SheetFault.TheVariants as sheet_is
 use Rattle.std.proofs.lemmas.List.{drop_more, length_push, nil_from_length}
 use Rattle.std.proofs.lemmas.Bool.Decides.{nat_tests}
@@ -8,7 +8,7 @@ use Rattle.sheet.specs.Kind.{allowed, may_end}
 use Rattle.sheet.specs.Job.{Job, no_job, Adds}
 use Rattle.sheet.specs.Statement.{Statement, Prints, print, Proper, kind_stated}
 use Rattle.sheet.specs.Cut.{Begins}
-use Rattle.sheet.specs.Sheet.{print_all, Run, stop, go, Next, Wrong, Reads, Broken, Unfinished}
+use Rattle.sheet.specs.Sheet.{print_all, Run, stop, go, Next, Wrong, Reads, Broken}
 use Rattle.sheet.specs.Exact.{Stopped}
 use Rattle.sheet.specs.declared.class.ByteClass.TheVariants.{LineFeed}
 use Rattle.sheet.specs.declared.kind.LineKind.{LineKind}

@@ -1,6 +1,6 @@
 -- The empty set of literals has no member.
-use Rattle.std.specs.Prelude.{◌≡◌, ℕ, ◌/◌, ◌%◌, ◌^◌, false, nat_eq, refl}
-use Rattle.std.proofs.Common.{sym, ap, ◌∙◌, arith}
+use Rattle.std.specs.Prelude.{◌≡◌, ℕ, ◌%◌, ◌^◌, false, nat_eq}
+use Rattle.std.proofs.Common.{ap}
 use Rattle.std.proofs.Math.Nat.{zero-div}
 use Rattle.sets.specs.Has.{has}
 use Rattle.sets.specs.Literals.{Literal, pos, neg}

@@ -1,5 +1,5 @@
 -- What the lines of a sheet state, line by line: the job, and what each line adds to it. Assumes nothing.
-use Rattle.std.specs.Prelude.{◌≡◌, ℕ, ◌+◌, ◌-◌, ◌<◌, ◌≤◌, Bool, true, false, cond, ◌||◌, ◌≢◌, ◌⊎◌, List, [], ◌∷◌, ◌++◌, map, length as size, ◌==◌, slice_index_or, slice_set}
+use Rattle.std.specs.Prelude.{◌≡◌, ℕ, ◌-◌, ◌<◌, ◌≤◌, Bool, true, false, cond, ◌||◌, ◌≢◌, ◌⊎◌, List, [], ◌∷◌, ◌++◌, map, length as size, ◌==◌, slice_index_or, slice_set}
 use Rattle.sets.specs.Literals.{Literal, pos, neg}
 use Rattle.sets.specs.Sets.{fact_in, lit_in, with_fact, with_literal, no_facts, no_literals}
 use Rattle.sets.specs.declared.facts.FactSet.{FactSet}

@@ -1,13 +1,13 @@
 -- A sheet problem keeps the limits of every problem.
-use Rattle.std.specs.Prelude.{◌≡◌, ℕ, zero, suc, ◌<◌, ◌≤◌, Bool, true, false, cond, List, [], ◌∷◌, map, length, get_or, take, ◌==◌, ◌≢◌, slice_index_or, refl}
+use Rattle.std.specs.Prelude.{◌≡◌, ℕ, zero, suc, ◌<◌, ◌≤◌, false, cond, List, [], ◌∷◌, map, length, get_or, take, ◌==◌, ◌≢◌, slice_index_or}
 use Rattle.std.proofs.Common.{sym, ap, subst, ◌∙◌, arith}
-use Rattle.std.proofs.lemmas.List.{length-map, length-take-le, get_or-take, get_or-map, get_or_past}
+use Rattle.std.proofs.lemmas.List.{length-map, get_or-take, get_or-map, get_or_past}
 use Rattle.std.proofs.lemmas.Bool.{both_ways}
 use Rattle.std.proofs.lemmas.Bool.Decides.{nat_tests}
-use Rattle.sets.specs.Literals.{Literal, pos, neg, opposite, fact}
+use Rattle.sets.specs.Literals.{Literal, fact}
 use Rattle.sets.specs.Sets.{lit_in, no_literals}
 use Rattle.sets.specs.declared.facts.LiteralSet.{LiteralSet}
-use Rattle.model.specs.Problems.{WellFormed, Consistent, InRange, closed_step, steps, step}
+use Rattle.model.specs.Problems.{WellFormed, closed_step, steps, step}
 use Rattle.model.specs.Tables.{LiteralsBelow, NoOpposites}
 use Rattle.sheet.specs.Job.{JobStep, no_step, open_step, problem_in}
 use Rattle.sheet.specs.Records.{job_step}

@@ -1,25 +1,23 @@
 -- What the tables of a sheet problem say of its job.
-use Rattle.std.specs.Prelude.{◌≡◌, ℕ, zero, suc, ◌+◌, ◌-◌, ◌<◌, ◌≤◌, Bool, true, false, cond, ◌&&◌, ◌||◌, ◌⊎◌, List, [], ◌∷◌, ◌++◌, map, length, get_or, take, set, replicate, Ok, Err, Option, Result, MatchResult, ◌==◌, nat_lt, slice_index_or, slice_set, refl}
+use Rattle.std.specs.Prelude.{◌≡◌, ℕ, zero, suc, ◌+◌, ◌-◌, ◌<◌, ◌≤◌, Bool, true, false, ◌&&◌, ◌||◌, ◌⊎◌, List, [], ◌∷◌, ◌++◌, map, length, get_or, take, set, replicate, Ok, Err, Option, Result, MatchResult, ◌==◌, nat_lt, slice_index_or, slice_set, refl}
 use Rattle.std.proofs.Common.{sym, ap, subst, ◌∙◌, inl, inr, ⊎_elim, arith}
 use Rattle.std.proofs.Math.Nat.{sub-zero}
-use Rattle.std.proofs.lemmas.List.{length-map, length-set, length-take-le, take-map, map-set, take_more_set, get_or-take, get_or-map, get_or_past}
+use Rattle.std.proofs.lemmas.List.{length-map, length-set, length-take-le, take-map, map-set, take_more_set, get_or-take, get_or-map}
 use Rattle.std.proofs.lemmas.Bool.{both_ways, eqb-true}
-use Rattle.std.proofs.lemmas.Bool.Decides.{nat_tests}
 use Rattle.sets.specs.Literals.{Literal}
-use Rattle.sets.specs.Sets.{fact_in, lit_in, with_literal, no_literals}
+use Rattle.sets.specs.Sets.{fact_in, with_literal, no_literals}
 use Rattle.sets.specs.declared.facts.FactSet.{FactSet}
 use Rattle.sets.specs.declared.facts.LiteralSet.{LiteralSet}
 use Rattle.model.specs.Tables.{FactsBelow}
 use Rattle.sheet.specs.Entry.{First, Stands}
 use Rattle.sheet.specs.Job.{Job, JobStep, no_step, newest, Names, Adds, Flawed, literal, mentions}
-use Rattle.sheet.specs.Joins.{Joins, Joined, NeedJoins, MakeJoins, with_needs, with_makes}
+use Rattle.sheet.specs.Joins.{Joins, NeedJoins, MakeJoins, with_needs, with_makes}
 use Rattle.sheet.specs.Name.{name_bytes}
 use Rattle.sheet.specs.Records.{fact_name, job_step}
 use Rattle.sheet.specs.Stated.{stated}
 use Rattle.sheet.specs.Statement.{wanted, need, make}
 use Rattle.sheet.specs.declared.fault.Place.{Place}
 use Rattle.sheet.specs.declared.fault.SheetFault.{SheetFault}
-use Rattle.sheet.specs.declared.record.FactRecord.{FactRecord}
 use Rattle.sheet.specs.declared.record.StepRecord.{StepRecord}
 use Rattle.sheet.specs.declared.problem.SheetProblem.{SheetProblem}
 

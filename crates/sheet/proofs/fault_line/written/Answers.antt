@@ -1,4 +1,4 @@
-use Rattle.std.proofs.Common.{◌≡◌, ℕ, ◌++◌, decimal, sym, ap}
+use Rattle.std.proofs.Common.{decimal, sym, ap}
 use Rattle.text.proofs.Writing.{adds_more, adds_same}
 use Rattle.sheet.specs.declared.fault.Place.{Place}
 use Rattle.sheet.proofs.fault_line.written.Goals as goal

@@ -1,9 +1,8 @@
-use Rattle.std.proofs.Common.{◌≡◌, true, false, sym, refl, subst}
+use Rattle.std.proofs.Common.{◌≡◌, true, false, subst}
 use Rattle.std.proofs.lemmas.Result.{err_from_is_err_and}
-use Rattle.sheet.specs.Job.{Flawed}
 use Rattle.sheet.specs.Kind.{allowed}
-use Rattle.sheet.specs.Statement.{meant, kind_stated}
-use Rattle.sheet.specs.Sheet.{Wrong, not_a_line, not_here, not_so}
+use Rattle.sheet.specs.Statement.{meant}
+use Rattle.sheet.specs.Sheet.{not_a_line, not_here, not_so}
 use Rattle.sheet.specs.declared.kind.LineKind.{LineKind}
 use Rattle.sheet.proofs.Lines.{next_line}
 use Rattle.sheet.proofs.reader.one_line.Goals as goal

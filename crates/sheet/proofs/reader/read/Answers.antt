@@ -1,6 +1,4 @@
-use Rattle.std.specs.Result.{MatchResult}
 use Rattle.sheet.specs.Stated.{stated}
-use Rattle.sheet.specs.Job.{no_job}
 use Rattle.sheet.proofs.Unique.{exact, cases_refused}
 use Rattle.sheet.proofs.reader.read.Goals as goal
 

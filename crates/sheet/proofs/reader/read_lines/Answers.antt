@@ -2,7 +2,7 @@ use Rattle.std.proofs.Common.{◌≡◌, ◌+◌, true, false, Some, None, sym, 
 use Rattle.std.proofs.lemmas.Result.{err_from_is_err_and}
 use Rattle.std.proofs.lemmas.Bool.{both_ways}
 use Rattle.sheet.specs.Job.{Job}
-use Rattle.sheet.specs.Kind.{allowed, after_step}
+use Rattle.sheet.specs.Kind.{after_step}
 use Rattle.sheet.specs.Statement.{kind_stated}
 use Rattle.sheet.specs.Stated.{stated}
 use Rattle.sheet.specs.declared.kind.LineKind.{LineKind}

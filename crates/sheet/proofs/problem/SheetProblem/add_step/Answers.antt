@@ -1,9 +1,8 @@
-use Rattle.std.proofs.Common.{◌≡◌, ℕ, ◌<◌, ◌≤◌, true, List, map, length, set, sym, refl, ap, ◌∙◌, subst, inl, inr, arith}
+use Rattle.std.proofs.Common.{◌≡◌, ℕ, ◌<◌, ◌≤◌, map, length, set, sym, refl, ap, ◌∙◌, subst, inl, inr, arith}
 use Rattle.std.proofs.lemmas.List.{length-set, map-set}
 use Rattle.std.proofs.lemmas.Bool.{both_ways}
 use Rattle.model.specs.Tables.{LiteralsBelow}
 use Rattle.sheet.specs.Job.{JobStep}
-use Rattle.sheet.specs.Name.{name_bytes}
 use Rattle.sheet.specs.Records.{job_step, NeedsBelow, MakesBelow}
 use Rattle.sheet.specs.Stated.{stated}
 use Rattle.sheet.specs.Stating.{steps_count, more, with_steps, at_set, bare}

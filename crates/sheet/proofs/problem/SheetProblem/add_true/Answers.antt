@@ -1,4 +1,4 @@
-use Rattle.std.proofs.Common.{◌≡◌, sym, ap, ◌∙◌, arith}
+use Rattle.std.proofs.Common.{sym, ap, ◌∙◌}
 use Rattle.sheet.specs.Stated.{stated}
 use Rattle.sheet.specs.Stating.{named_below, below_64, starts_below, with_start}
 use Rattle.sheet.proofs.problem.SheetProblem.add_true.Goals as goal

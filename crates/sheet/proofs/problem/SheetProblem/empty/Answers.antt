@@ -1,4 +1,4 @@
-use Rattle.std.proofs.Common.{◌≡◌, true, false, refl, subst, arith}
+use Rattle.std.proofs.Common.{◌≡◌, false, refl, subst, arith}
 use Rattle.std.proofs.lemmas.Bool.{both_ways}
 use Rattle.sets.specs.Literals.{Literal}
 use Rattle.sets.specs.Sets.{lit_in, no_literals}
