@@ -1,8 +1,8 @@
 -- One cell more in the table, and the whole order.
-use Rattle.std.proofs.Common.{◌≡◌, ℕ, ◌+◌, ◌*◌, ◌<◌, ◌≤◌, ltb, leb, ◌≢◌, List, length, get_or, set, sym, refl, ap, ◌∙◌, subst, arith, get_or-set_other, get_or-set_same, below_more}
+use Rattle.std.proofs.Common.{◌≡◌, ℕ, ◌+◌, ◌*◌, ◌<◌, ◌≤◌, ◌≢◌, List, length, set, sym, ap, ◌∙◌, subst, arith, get_or-set_other, get_or-set_same, below_more}
 use Rattle.std.proofs.lemmas.Bool.{lt-ltb, le-leb, and_from, cond-true}
 use Rattle.model.specs.declared.cell.Cell.{Cell}
-use Rattle.model.specs.Rankings.{Order, Undo, Ranked, Copied, Sofar, EachOnce, cell_of, cell_answer, ranked}
+use Rattle.model.specs.Rankings.{Order, Undo, Ranked, Copied, Sofar, EachOnce, cell_of, cell_answer}
 
 pub answer_within : (o : Order) (times steps p : ℕ) → times ≤ 32 → steps ≤ 256 → p < times * steps → cell_answer o times steps p ≡ o.cell times steps p
 answer_within o times steps p a b h =

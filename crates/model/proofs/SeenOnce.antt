@@ -1,9 +1,8 @@
 -- What a look at a path shows has one proof at most. Assumes nothing.
-use Rattle.std.proofs.Common.{◌≡◌, ℕ, true, false, List, [], ◌∷◌}
+use Rattle.std.proofs.Common.{ℕ, true, false, List, [], ◌∷◌}
 use native.Mathlib.Bridge.{le_prop}
 use mathlib.Core.Bool.{Bool-set}
 use mathlib.Core.HLevel.{Π_prop, ×_prop, Unit-prop, ⊥_prop, hedberg}
-use Rattle.sets.specs.Literals.{Literal}
 use Rattle.model.specs.declared.cell.Cell.{Cell}
 use Rattle.model.specs.declared.path.Entry.{Entry}
 use Rattle.model.specs.Problems.{Problem, step, value}

@@ -1,9 +1,8 @@
 -- Rows of a width: quotient and remainder undo the place, and the place undoes them.
-use Rattle.std.specs.Prelude.{◌≡◌, ℕ, zero, suc, ◌+◌, ◌*◌, ◌/◌, ◌%◌, ◌<◌, ◌≤◌, refl}
-use Rattle.std.proofs.Common.{sym, ap, subst, ◌∙◌, mul_comm, mul-zero, arith}
+use Rattle.std.specs.Prelude.{◌≡◌, ℕ, zero, suc, ◌+◌, ◌*◌, ◌<◌}
+use Rattle.std.proofs.Common.{subst, mul_comm, mul-zero, arith}
 use Rattle.std.proofs.lemmas.Nat.{div-add-mod', div-mul-add, mod-mul-add, mul-add-lt, div_below, mod_below}
-use Rattle.model.specs.declared.cell.Cell.{Cell}
-use Rattle.model.specs.Rankings.{Order, Undo, cell_of}
+use Rattle.model.specs.Rankings.{Undo, cell_of}
 use Rattle.sources.specs.Built.{forward, by_step}
 
 -- a place below rows * w shows that a row is not empty

@@ -1,5 +1,5 @@
 -- The two rankings that are built. Assumes nothing.
-use Rattle.std.specs.Prelude.{ℕ, ◌+◌, ◌*◌, ◌/◌, ◌%◌}
+use Rattle.std.specs.Prelude.{◌+◌, ◌*◌, ◌/◌, ◌%◌}
 use Rattle.model.specs.Rankings.{Order, cell_of}
 
 -- time by time: the cell of time t and step o has place t * steps + o

@@ -1,14 +1,14 @@
 -- The reach set: a round through the steps, what a round that brings nothing shows, and the filter that follows.
-use Rattle.std.specs.Prelude.{◌≡◌, ℕ, ◌+◌, ◌<◌, ◌≤◌, Bool, true, false, not, ◌&&◌, ◌≢◌, ◌⊎◌, List, length, set, MatchBool, slice_index_or, slice_set, refl}
+use Rattle.std.specs.Prelude.{◌≡◌, ℕ, ◌+◌, ◌<◌, ◌≤◌, Bool, true, false, not, ◌&&◌, ◌≢◌, List, length, MatchBool, slice_index_or, slice_set, refl}
 use Rattle.std.proofs.Common.{sym, ap, subst, ◌∙◌, ⊎_elim, arith, below_more, get_or-set_same, get_or-set_other}
 use Rattle.std.proofs.lemmas.List.{get_or_past, ext_get_or}
 use Rattle.std.proofs.lemmas.Bool.{and_parts, and_from, cases_Bool, cases_lt, true≢false, not-true}
 use Rattle.sets.specs.Literals.{Literal, code}
-use Rattle.sets.specs.Sets.{lit_in, weight}
+use Rattle.sets.specs.Sets.{lit_in}
 use Rattle.sets.specs.declared.facts.LiteralSet.{LiteralSet}
 use Rattle.model.specs.declared.step.Step.{Step}
 use Rattle.model.specs.Problems.{Problem, WellFormed, steps, step, closed_step, Open, InRange, Consistent, ◌∈◌}
-use Rattle.sources.specs.Reach.{Reached, Reachable, Filters, Exact, closing, closed_where}
+use Rattle.sources.specs.Reach.{Reached, Filters, Exact, closing}
 use Rattle.sources.specs.Rounds.{Within, Outside, OfStart, Widened, Sound, ClosedTo, Round, ReachSet}
 use Rattle.sources.specs.Tables.{closing_step, closing_steps}
 

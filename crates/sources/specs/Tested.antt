@@ -1,15 +1,15 @@
 -- A problem of numbered rows is within the limits when a test that can be computed says so.
-use Rattle.std.specs.Prelude.{◌≡◌, ℕ, zero, suc, ◌^◌, ◌<◌, ◌≤◌, Bool, true, false, ◌&&◌, ◌==◌, ◌≢◌, bit_and, nat_le, nat_lt, refl}
+use Rattle.std.specs.Prelude.{◌≡◌, ℕ, zero, suc, ◌^◌, ◌<◌, ◌≤◌, Bool, true, ◌&&◌, ◌==◌, ◌≢◌, bit_and, nat_le, nat_lt}
 use Rattle.std.proofs.Common.{sym, ap, subst, ◌∙◌, ⊎_elim, arith}
 use Rattle.std.proofs.lemmas.Bool.{ltb-true, leb-true, eqb-true, and_parts, and_from, true≢false, cases_eq, cases_lt}
 use Rattle.sets.specs.Has.{has}
-use Rattle.sets.specs.Literals.{Literal, pos, neg, fact, opposite}
+use Rattle.sets.specs.Literals.{Literal, pos, neg, fact}
 use Rattle.sets.specs.Sets.{fact_in, lit_in, no_literals}
 use Rattle.sets.specs.declared.facts.FactSet.{FactSet}
 use Rattle.sets.specs.declared.facts.LiteralSet.{LiteralSet}
 use Rattle.sets.proofs.Bits.{has_and, has_zero, has_inside}
 use Rattle.model.specs.declared.step.Step.{Step}
-use Rattle.model.specs.Problems.{Problem, WellFormed, step, steps, closed_step, Consistent, ◌∈◌}
+use Rattle.model.specs.Problems.{Problem, WellFormed, step, closed_step, Consistent, ◌∈◌}
 use Rattle.sources.specs.Listed.{tabulate}
 use Rattle.sources.specs.Tables.{length_tabulate, tabulate_within, tabulate_past}
 

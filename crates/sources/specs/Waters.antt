@@ -1,6 +1,6 @@
 -- The water line is within the limits for 1 to 8 meters, and its steps are found by quotient and remainder.
 use Rattle.std.specs.Prelude.{◌≡◌, ℕ, zero, suc, ◌+◌, ◌-◌, ◌*◌, ◌/◌, ◌%◌, ◌≤◌, true, List, ◌∷◌, get_or, ◌≢◌, slice_index_or, refl}
-use Rattle.std.proofs.Common.{sym, ap, ◌∙◌, arith}
+use Rattle.std.proofs.Common.{ap, arith}
 use Rattle.sets.specs.Literals.{Literal, pos, neg, lit, code}
 use Rattle.sets.specs.Sets.{with_fact, with_literal}
 use Rattle.sets.specs.declared.facts.FactSet.{FactSet}

@@ -1,5 +1,5 @@
 -- How what the writer adds joins, what it counts, and what its two runs give.
-use Rattle.std.proofs.Common.{◌≡◌, ℕ, ◌+◌, ◌/◌, ◌%◌, ◌^◌, ◌<◌, ◌≤◌, ◌⊎◌, List, [], ◌∷◌, ◌++◌, length, get_or, take, drop, set, replicate, decimal, sym, refl, ap, ◌∙◌, ⊎_elim, append_assoc, arith, length-append, length-set}
+use Rattle.std.proofs.Common.{◌≡◌, ℕ, ◌+◌, ◌/◌, ◌%◌, ◌^◌, ◌<◌, ◌≤◌, List, [], ◌∷◌, ◌++◌, length, get_or, take, drop, set, replicate, decimal, sym, refl, ap, ◌∙◌, ⊎_elim, append_assoc, arith, length-append, length-set}
 use Rattle.std.proofs.lemmas.Fmt.{decimal_digit, decimal_step, length-decimal-le}
 use Rattle.std.proofs.lemmas.List.{append-nil, drop_at, drop_more, length_push, length-replicate, length-take-le, set_at, take-append-drop, take_at, take_more}
 use Rattle.std.proofs.lemmas.Bool.{cases_lt}

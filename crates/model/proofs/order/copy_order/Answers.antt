@@ -1,4 +1,4 @@
-use Rattle.std.proofs.Common.{ℕ, ◌*◌, ◌<◌, ◌≤◌, length, sym, ◌∙◌, arith, rules}
+use Rattle.std.proofs.Common.{◌*◌, ◌<◌, ◌≤◌, length, sym, ◌∙◌, arith, rules}
 use Rattle.std.proofs.lemmas.Bool.{le-leb, and_from, true≢false}
 use Rattle.model.specs.Rankings.{Copied}
 use Rattle.model.proofs.Copies.{answer_within, sofar_more, each_once}

@@ -1,4 +1,4 @@
-use Rattle.std.proofs.Common.{◌^◌, ◌<◌, arith}
+use Rattle.std.proofs.Common.{arith}
 use Rattle.sets.specs.Sets.{weight, bulk}
 use Rattle.sources.specs.Reaches.{start_sound, reach_done, subset_yes, subset_no}
 use Rattle.sources.proofs.reach.reach_set.Goals as goal

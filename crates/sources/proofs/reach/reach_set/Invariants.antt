@@ -1,4 +1,4 @@
-use Rattle.std.proofs.Common.{◌-◌, ◌^◌, ◌<◌}
+use Rattle.std.proofs.Common.{◌-◌, ◌^◌}
 use Rattle.sets.specs.Sets.{weight}
 use Rattle.sources.specs.Rounds.{Within, Sound}
 use Rattle.sources.proofs.reach.reach_set.Given as goal

@@ -1,4 +1,4 @@
-use Rattle.std.proofs.Common.{◌≡◌, ℕ, min, sym, refl, ap, arith}
+use Rattle.std.proofs.Common.{sym, refl, ap, arith}
 use Rattle.text.specs.Cards.{card_of, taken_in}
 use Rattle.text.proofs.Writing.{adds_same, measured, stands}
 use Rattle.text.proofs.card.write_card.Goals as goal

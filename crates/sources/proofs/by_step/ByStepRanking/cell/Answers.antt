@@ -1,4 +1,4 @@
-use Rattle.std.proofs.Common.{ℕ, ◌*◌, ◌/◌, ◌<◌, subst, mul_comm, arith, rules}
+use Rattle.std.proofs.Common.{ℕ, ◌*◌, ◌<◌, subst, mul_comm, rules}
 use Rattle.std.proofs.lemmas.Nat.{div_below}
 use Rattle.sources.specs.Bijections.{wide}
 use Rattle.sources.proofs.by_step.ByStepRanking.cell.Goals as goal

@@ -1,4 +1,4 @@
-use Rattle.std.proofs.Common.{◌*◌, ◌/◌, ◌<◌, arith, rules}
+use Rattle.std.proofs.Common.{◌*◌, ◌<◌, rules}
 use Rattle.std.proofs.lemmas.Nat.{div_below}
 use Rattle.sources.specs.Bijections.{wide}
 use Rattle.sources.proofs.forward.ForwardRanking.cell.Goals as goal
