@@ -1,5 +1,5 @@
 -- The card that a planner reports of a job is the job's card. Assumes nothing.
-use Rattle.std.proofs.Common.{◌≡◌, ℕ, zero, suc, ◌+◌, ◌*◌, ◌<◌, ◌≤◌, Bool, true, false, cond, eqb, ltb, ◌⊎◌, List, [], ◌∷◌, ◌++◌, length, get_or, Ok, Err, Result, sym, refl, ap, ◌∙◌, subst, inl, inr, ⊎_elim, add-one, arith, length-append}
+use Rattle.std.proofs.Common.{◌≡◌, ℕ, zero, suc, ◌+◌, ◌*◌, ◌<◌, ◌≤◌, Bool, cond, eqb, ◌⊎◌, List, [], ◌∷◌, length, get_or, Ok, Err, Result, sym, refl, ap, ◌∙◌, subst, inl, inr, ⊎_elim, add-one, arith}
 use mathlib.Core.Logic.{∥∥₁_map}
 use Rattle.std.proofs.lemmas.List.{get_or_append_left, get_or_push, length_push}
 use Rattle.std.proofs.lemmas.Bool.{cases_lt, le-ltb}
@@ -7,25 +7,24 @@ use Rattle.model.specs.declared.answers.Decline.{Decline}
 use Rattle.model.specs.declared.answers.Decline.TheVariants.{Unopened, Unasked, TooLong, OutOfRange, Pinned, Unpinned, Grant, TooShort}
 use Rattle.model.specs.declared.cell.Cell.{Cell}
 use Rattle.model.specs.Problems.{Problem, WellFormed, steps}
-use Rattle.model.specs.Plans.{Cells, Pin, IsPlan, Keeps, unpinned, take, leave}
-use Rattle.model.specs.Rankings.{Order, cell_of}
+use Rattle.model.specs.Plans.{Cells, unpinned, take, leave}
+use Rattle.model.specs.Rankings.{cell_of}
 use Rattle.model.specs.Answers.{decline_number}
 use Rattle.model.specs.Paths.{at, passed}
 use Rattle.model.specs.Choices.{Fair}
-use Rattle.model.specs.Firsts.{Such, Before, First, None, NoneLeft}
+use Rattle.model.specs.Firsts.{Such, Before, First, None}
 use Rattle.model.proofs.OrderFree.{order_free}
 use Rattle.sources.specs.Built.{forward}
 use Rattle.sources.specs.Reach.{Filters, SamePlans}
 use Rattle.sheet.specs.Job.{Job, problem_in}
-use Rattle.text.specs.Written.{Stands, TooFew}
-use Rattle.text.specs.Cards.{card_of, none_card, not_yet_card}
+use Rattle.text.specs.Cards.{card_of}
 use Rattle.planner.specs.declared.tables.Planner.{Planner}
-use Rattle.planner.specs.Ledger.{Ledger, Ledger.opened, Ledger.asked, Asked, Reply, Reply.answered, Event.open_call, Event.ask_call, Event.report_call, no_pins, cells_upto, declines, enter, write}
+use Rattle.planner.specs.Ledger.{Ledger, Ledger.opened, Ledger.asked, Reply.answered, Event.open_call, Event.ask_call, Event.report_call, no_pins, cells_upto, declines, enter, write}
 use Rattle.planner.specs.Promises.{CardOf, FirstPlan, Reports}
 use Rattle.planner.specs.Obeys.{Obeys, ledger, path, reply}
 use Rattle.planner.proofs.Entering.{asked_same}
 use Rattle.jobs.specs.JobCards.{PlanOf, step_count, cell_in, JobCard, JobCard.first_plan, JobCard.no_plan, JobCard.still_open, Written, JobAnswered}
-use Rattle.jobs.specs.Running.{Begun, with_outcome, Stretch, RanOut}
+use Rattle.jobs.specs.Running.{Stretch, RanOut}
 
 -- the ledger of a job that is asked
 abbrev pub job_ledger : Job → Problem → ℕ → Ledger

@@ -1,10 +1,10 @@
 -- Runs one after another, up to an ending. Assumes nothing.
-use Rattle.std.proofs.Common.{◌≡◌, ℕ, ◌+◌, ◌*◌, ◌<◌, ◌≤◌, Bool, true, false, cond, eqb, sym, refl, ap, ◌∙◌, subst, arith}
+use Rattle.std.proofs.Common.{◌≡◌, ℕ, ◌+◌, ◌*◌, true, false, cond, eqb, sym, refl, ap, ◌∙◌, subst, arith}
 use Rattle.model.specs.declared.answers.Outcome.{Outcome}
 use Rattle.model.specs.declared.answers.Outcome.TheVariants.{NotYet, Plan, NoPlan}
 use Rattle.model.specs.Answers.{outcome_number}
 use Rattle.planner.specs.declared.tables.Planner.{Planner}
-use Rattle.planner.specs.Ledger.{Ledger, Ledger.blank, Ledger.opened, Ledger.asked, Reply, Reply.declined, Reply.answered, Event.run_call, unasked, problem, ask, declines, enter}
+use Rattle.planner.specs.Ledger.{Ledger, Ledger.blank, Ledger.opened, Ledger.asked, Reply, Reply.declined, Reply.answered, Event.run_call, unasked, declines, enter}
 use Rattle.planner.specs.Promises.{RunSays}
 use Rattle.planner.specs.Obeys.{Obeys, ledger, path}
 use Rattle.jobs.specs.Running.{Begun, with_outcome, Stretch, RanOut}

@@ -1,6 +1,5 @@
 -- What a job's runs come to. Assumes nothing.
-use Rattle.std.specs.Prelude.{◌≡◌, ℕ, ◌*◌, ◌<◌, ◌≤◌, false, List, Result, MatchResult}
-use Rattle.model.specs.declared.answers.Decline.{Decline}
+use Rattle.std.specs.Prelude.{◌≡◌, ℕ, ◌<◌, ◌≤◌, false}
 use Rattle.model.specs.Problems.{steps}
 use Rattle.model.specs.Paths.{passed}
 use Rattle.model.specs.Choices.{Fair}

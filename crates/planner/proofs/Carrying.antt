@@ -1,5 +1,5 @@
 -- Calls carried out one after another. Assumes nothing.
-use Rattle.std.proofs.Common.{◌≡◌, ℕ, ◌+◌, ◌<◌, ◌≤◌, List, [], ◌∷◌, ◌++◌, length, get_or, take, drop, set, sym, refl, ap, ◌∙◌, subst, arith}
+use Rattle.std.proofs.Common.{ℕ, ◌+◌, ◌<◌, List, [], ◌∷◌, ◌++◌, length, get_or, take, drop, set, sym, refl, ap, ◌∙◌, subst, arith}
 use Rattle.std.proofs.lemmas.List.{take_more, take_more_set, drop-drop, drop-set-lt}
 use Rattle.model.specs.Problems.{Problem}
 use Rattle.model.specs.Rankings.{Order}
@@ -8,7 +8,7 @@ use Rattle.planner.specs.declared.call.Call.{Call}
 use Rattle.planner.specs.declared.call.Answer.{Answer}
 use Rattle.planner.specs.Ledger.{Event}
 use Rattle.planner.specs.Obeys.{Obeys}
-use Rattle.planner.specs.Histories.{History, History.none}
+use Rattle.planner.specs.Histories.{History.none}
 use Rattle.planner.specs.Carried.{event_of, Recorded, CarriedOut, CarriedSofar}
 use Rattle.planner.proofs.Lawfulness.{one_more, every_history}
 

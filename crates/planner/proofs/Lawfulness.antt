@@ -1,11 +1,10 @@
 -- Every history of calls is lawful. Assumes nothing.
-use Rattle.std.proofs.Common.{◌≡◌, List, [], ◌∷◌, ◌++◌, sym, refl, ap, ◌∙◌, subst}
+use Rattle.std.proofs.Common.{◌≡◌, List, [], ◌∷◌, ◌++◌, refl, ap, ◌∙◌, subst}
 use Rattle.model.specs.declared.path.Entry.{Entry}
 use Rattle.planner.specs.declared.tables.Planner.{Planner}
-use Rattle.planner.specs.Ledger.{Ledger, Ledger.blank, Event, write}
-use Rattle.planner.specs.Promises.{Promise}
-use Rattle.planner.specs.Obeys.{Obeys, Fresh, ledger, path}
-use Rattle.planner.specs.Histories.{History, History.none, History.more, ledger_after, EachKept, Lawful, EveryHistory}
+use Rattle.planner.specs.Ledger.{Ledger, Ledger.blank, Event}
+use Rattle.planner.specs.Obeys.{Obeys, ledger, path}
+use Rattle.planner.specs.Histories.{History, History.none, History.more, ledger_after, EachKept, EveryHistory}
 
 pub ledger_kept : {p q : Planner} {es : List Event} → History p es q → ledger q ≡ ledger_after (ledger p) es
 ledger_kept (none p) = refl

@@ -1,5 +1,5 @@
 -- Each call obeys, from what the search under it promises. Assumes nothing.
-use Rattle.std.proofs.Common.{◌≡◌, ℕ, ◌*◌, ◌<◌, ◌≤◌, Bool, true, false, cond, not, ◌||◌, eqb, ltb, leb, List, [], ◌∷◌, length, get_or, take, Some, None as Nothing, Option, sym, refl, ap, ◌∙◌, subst, inl, inr, arith}
+use Rattle.std.proofs.Common.{◌≡◌, ℕ, ◌*◌, ◌<◌, ◌≤◌, Bool, true, false, cond, not, ltb, List, [], ◌∷◌, length, get_or, take, Some, None as Nothing, sym, refl, ap, ◌∙◌, subst, inr, arith}
 use native.Mathlib.Nat.{ℕ_set}
 use mathlib.Core.Logic.{∥∥₁_map, ∥∥₁_elim}
 use Rattle.std.proofs.lemmas.List.{same_lists}
@@ -18,16 +18,15 @@ use Rattle.model.specs.Answers.{outcome_number, decline_number}
 use Rattle.model.specs.Forcing.{ForcedSays}
 use Rattle.marks.specs.Pinning.{pins_of, pin_of}
 use Rattle.text.specs.Written.{Fitted}
-use Rattle.search.specs.declared.tables.Search.{Search}
 use Rattle.search.specs.Begins.{Opened, Asked, Repinned}
-use Rattle.search.specs.Looks.{Ask, asked as asked_of, path_of, Ran}
+use Rattle.search.specs.Looks.{Ask, asked as asked_of, Ran}
 use Rattle.planner.specs.declared.tables.Planner.{Planner}
 use Rattle.planner.specs.declared.tables.Stage.{Stage}
 use Rattle.planner.specs.declared.tables.Stage.TheVariants as stage
-use Rattle.planner.specs.Ledger.{Ledger, Ledger.asked, Ledger.opened, Event, Reply, Reply.declined, Reply.answered, unopened, unasked, out_of_range, is_pinned, pinned, bad_grant, first_fitting, pin_for, repin, problem, ask, declines}
-use Rattle.planner.specs.Ledger.{Event.open_call, Event.ask_call, Event.pin_call, Event.unpin_call, Event.run_call, Event.forced_call, Event.path_call, Event.report_call}
+use Rattle.planner.specs.Ledger.{Ledger, Ledger.asked, Ledger.opened, Reply.declined, Reply.answered, unopened, unasked, out_of_range, is_pinned, pinned, bad_grant, first_fitting, pin_for, repin, problem, declines}
+use Rattle.planner.specs.Ledger.{Event.open_call, Event.ask_call, Event.pin_call, Event.unpin_call, Event.run_call, Event.forced_call, Event.report_call}
 use Rattle.planner.specs.Promises.{CardOf}
-use Rattle.planner.specs.Obeys.{ledger_at, ledger, path, Obeys}
+use Rattle.planner.specs.Obeys.{ledger_at, ledger, Obeys}
 use Rattle.planner.specs.Checks.{InRange, cell_rows}
 use Rattle.planner.proofs.Entering.{ask_enters, pin_enters, obeys_done, obeys_declined, obeys_look}
 use Rattle.planner.proofs.Telling.{asked_ledger, says, says_again}

@@ -1,5 +1,5 @@
 -- What a run says, from what the search did. Assumes nothing.
-use Rattle.std.proofs.Common.{◌≡◌, ℕ, zero, suc, ◌+◌, ◌*◌, ◌<◌, ◌≤◌, min, Bool, true, false, cond, ◌&&◌, eqb, ltb, List, [], ◌∷◌, ◌++◌, length, get_or, Some, None as Nothing, decimal, Option, sym, refl, ap, ◌∙◌, subst, ⊎_elim, arith}
+use Rattle.std.proofs.Common.{◌≡◌, ℕ, zero, suc, ◌<◌, min, Bool, cond, ◌&&◌, eqb, ltb, List, [], ◌∷◌, ◌++◌, length, get_or, Some, None as Nothing, decimal, Option, sym, refl, ap, ◌∙◌, subst, ⊎_elim, arith}
 use native.Mathlib.Nat.{ℕ_set}
 use mathlib.Core.Logic.{∥∥₁_elim, ∥∥₁_map}
 use mathlib.Core.HLevel.{⊥_prop}
@@ -16,7 +16,6 @@ use Rattle.model.specs.declared.path.Entry.{Entry}
 use Rattle.model.specs.Problems.{steps}
 use Rattle.model.specs.Plans.{Cells, Pin, Pins}
 use Rattle.model.specs.Held.{problem_of}
-use Rattle.model.specs.Paths.{passed}
 use Rattle.model.specs.Choices.{Fair}
 use Rattle.model.specs.Firsts.{First, None, NoneLeft}
 use Rattle.model.proofs.Counting.{walks_pass}
@@ -29,7 +28,7 @@ use Rattle.search.specs.Levels.{cell_at}
 use Rattle.search.specs.Looks.{Ask, asked, Wanted, path_of, plan_of, Ran}
 use Rattle.search.proofs.Searches.{kept_now}
 use Rattle.planner.specs.declared.tables.Planner.{Planner}
-use Rattle.planner.specs.Endings.{FirstOf, Ends}
+use Rattle.planner.specs.Endings.{Ends}
 use Rattle.planner.specs.Calls.{RunSays, CardOf, Writes, unopened, unasked}
 
 pub no_entries : (path : List Entry) → length path ≡ 0 → path ≡ []

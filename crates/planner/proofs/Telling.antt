@@ -1,15 +1,12 @@
 -- What a run says and a report writes, read from the ledger. Assumes nothing.
-use Rattle.std.proofs.Common.{◌≡◌, ℕ, zero, suc, ◌+◌, ◌*◌, ◌<◌, ◌≤◌, min, Bool, true, false, cond, ◌&&◌, ◌⊎◌, List, [], ◌∷◌, ◌++◌, length, get_or, take, decimal, Option, sym, refl, ap, ◌∙◌, subst, inl, inr, ⊎_elim, arith, get_or-take}
+use Rattle.std.proofs.Common.{◌≡◌, ℕ, ◌*◌, ◌<◌, min, List, length, take, Option, sym, refl, ap, ◌∙◌, subst, inl, inr, ⊎_elim, arith, get_or-take}
 use native.Mathlib.Nat.{ℕ_set}
 use mathlib.Core.Logic.{∥∥₁_elim, ∥∥₁_map}
 use mathlib.Core.HLevel.{⊥_prop}
-use Rattle.std.proofs.lemmas.Bool.{and_from, lt-ltb}
-use Rattle.sets.specs.Sets.{step_in, no_steps}
 use Rattle.sets.specs.declared.steps.StepSet.{StepSet}
 use Rattle.model.specs.declared.cell.Cell.{Cell}
 use Rattle.model.specs.declared.answers.Outcome.{Outcome}
 use Rattle.model.specs.declared.answers.Outcome.TheVariants.{NotYet, Plan, NoPlan}
-use Rattle.model.specs.declared.path.Entry.{Entry}
 use Rattle.model.specs.Problems.{steps}
 use Rattle.model.specs.Plans.{Cells}
 use Rattle.model.specs.Rankings.{cell_of}
@@ -17,11 +14,11 @@ use Rattle.model.specs.Held.{problem_of}
 use Rattle.model.specs.Answers.{outcome_number}
 use Rattle.model.specs.Paths.{at}
 use Rattle.model.specs.Choices.{Fair}
-use Rattle.model.specs.Firsts.{First, Before, Same, None, NoneLeft}
+use Rattle.model.specs.Firsts.{Before, NoneLeft}
 use Rattle.model.proofs.Counting.{walks_pass}
 use Rattle.model.proofs.OrderFree.{order_free}
 use Rattle.marks.specs.Pinning.{pins_of}
-use Rattle.text.specs.Cards.{steps_up_to, line_of, card_of, taken_in, none_card, not_yet_card}
+use Rattle.text.specs.Cards.{card_of, taken_in, none_card, not_yet_card}
 use Rattle.text.specs.Written.{Fitted}
 use Rattle.search.specs.declared.tables.Search.{Search}
 use Rattle.search.specs.Levels.{cell_at}

@@ -1,5 +1,5 @@
 -- What each call of a planner does: it writes into the ledger, keeps its promise, and changes nothing where it is declined. Assumes nothing.
-use Rattle.std.specs.Prelude.{◌≡◌, ℕ, ◌*◌, ◌<◌, List, [], take, Ok, Err, Result}
+use Rattle.std.specs.Prelude.{◌≡◌, ◌*◌, ◌<◌, List, [], take, Ok, Err, Result}
 use Rattle.model.specs.declared.answers.Outcome.{Outcome}
 use Rattle.model.specs.declared.answers.Decline.{Decline}
 use Rattle.model.specs.declared.path.Entry.{Entry}

@@ -1,5 +1,5 @@
 -- A search as it begins. Assumes nothing.
-use Rattle.std.proofs.Common.{◌≡◌, ℕ, zero, suc, ◌*◌, ◌<◌, ◌≤◌, Bool, true, false, ◌&&◌, ltb, leb, ◌⊎◌, List, [], ◌∷◌, length, get_or, sym, refl, ap, ◌∙◌, subst, inl, inr, ⊎_elim, zero-mul, arith}
+use Rattle.std.proofs.Common.{◌≡◌, ℕ, ◌*◌, ◌<◌, ◌≤◌, true, ◌&&◌, ltb, leb, ◌⊎◌, List, get_or, sym, ◌∙◌, subst, inl, inr, ⊎_elim, zero-mul, arith}
 use mathlib.Core.Logic.{∥∥₁_map, ∥∥₁_elim}
 use native.Mathlib.Bridge.{le_prop}
 use Rattle.sets.specs.Literals.{Literal, lit, code}

@@ -1,12 +1,12 @@
 -- One choice more is one mark more among what is given. Assumes nothing.
-use Rattle.std.proofs.Common.{◌≡◌, ℕ, ◌<◌, Bool, true, false, cond, ◌&&◌, ◌||◌, eqb, ltb, ◌⊎◌, List, [], ◌∷◌, ◌++◌, sym, refl, ap, ◌∙◌, subst, inl, inr, ⊎_elim, arith}
+use Rattle.std.proofs.Common.{◌≡◌, ℕ, ◌<◌, Bool, true, false, cond, ◌||◌, ltb, ◌⊎◌, List, [], ◌∷◌, ◌++◌, sym, refl, ap, ◌∙◌, inl, inr, ⊎_elim}
 use Rattle.std.proofs.lemmas.Bool.{both_ways, cases_Bool, cond-true, cond-false, and_parts, and_from, or_cases, or_left, or_right, lt-ltb}
 use Rattle.sets.specs.Sets.{step_in}
 use Rattle.model.specs.declared.cell.Cell.{Cell}
 use Rattle.model.specs.declared.path.Side.{Side}
 use Rattle.model.specs.declared.path.Side.TheVariants as side
 use Rattle.model.specs.declared.path.Entry.{Entry}
-use Rattle.model.specs.Plans.{Pin, Pins, take, leave, unpinned}
+use Rattle.model.specs.Plans.{Pin, Pins, unpinned}
 use Rattle.marks.specs.declared.mark.Mark.{Mark}
 use Rattle.marks.specs.declared.mark.Mark.TheVariants.{Fact, Taken, LeftOut}
 use Rattle.marks.specs.declared.index.Index.{Index}

@@ -1,8 +1,8 @@
 -- A table that holds every cell once is an order of the cells. Assumes nothing.
-use Rattle.std.proofs.Common.{◌≡◌, ℕ, zero, suc, ◌*◌, ◌<◌, ◌≤◌, Bool, true, false, cond, ◌⊎◌, List, [], ◌∷◌, length, get_or, sym, refl, ap, ◌∙◌, subst, inl, inr, ⊎_elim, arith}
-use Rattle.std.proofs.lemmas.Bool.{both_ways, cases_Bool, cond-true, cond-false}
+use Rattle.std.proofs.Common.{◌≡◌, ℕ, zero, suc, ◌*◌, ◌<◌, ◌≤◌, true, false, List, [], ◌∷◌, length, refl, ap, ◌∙◌, subst, ⊎_elim, arith}
+use Rattle.std.proofs.lemmas.Bool.{cases_Bool, cond-true, cond-false}
 use Rattle.model.specs.declared.cell.Cell.{Cell}
-use Rattle.model.specs.Rankings.{cell_of, EachOnce}
+use Rattle.model.specs.Rankings.{EachOnce}
 use Rattle.model.specs.Firsts.{Ordered}
 use Rattle.search.specs.Pinned.{is_cell}
 use Rattle.search.specs.Levels.{cell_at}

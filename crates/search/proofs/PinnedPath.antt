@@ -1,12 +1,12 @@
 -- To agree with a path is to keep its choices as pins. Assumes nothing.
-use Rattle.std.proofs.Common.{◌≡◌, ℕ, ◌<◌, Bool, true, false, cond, ◌&&◌, eqb, ◌⊎◌, List, [], ◌∷◌, sym, refl, ap, ◌∙◌, subst, inl, inr, ⊎_elim, arith}
-use Rattle.std.proofs.lemmas.Bool.{both_ways, cases_Bool, cond-true, cond-false, and_parts, and_from, eqb-true, eq-eqb}
+use Rattle.std.proofs.Common.{◌≡◌, ℕ, Bool, true, false, eqb, ◌⊎◌, List, [], ◌∷◌, sym, refl, ap, ◌∙◌, subst, inl, inr, ⊎_elim}
+use Rattle.std.proofs.lemmas.Bool.{cases_Bool, cond-true, cond-false, and_parts, and_from, eqb-true, eq-eqb}
 use Rattle.model.specs.declared.cell.Cell.{Cell}
 use Rattle.model.specs.declared.path.Side.{Side}
 use Rattle.model.specs.declared.path.Side.TheVariants.{LeftOut, Taken}
 use Rattle.model.specs.declared.path.Entry.{Entry}
 use Rattle.model.specs.Plans.{Cells, Pin, Pins, take, leave, unpinned, Keeps}
-use Rattle.model.specs.Paths.{at, takes, Follows, Agrees}
+use Rattle.model.specs.Paths.{takes, Follows, Agrees}
 use Rattle.model.specs.Choices.{Absent, Fair}
 use Rattle.search.specs.Pinned.{pin_of, is_cell, with_path}
 

@@ -1,13 +1,13 @@
 -- What holds of every search. Assumes nothing.
-use Rattle.std.proofs.Common.{◌≡◌, ℕ, suc, ◌+◌, ◌-◌, ◌*◌, ◌<◌, ◌≤◌, Bool, true, false, List, [], ◌∷◌, ◌++◌, map, length, get_or, take, set, Some, None, sym, refl, ap, ◌∙◌, subst, ⊎_elim, mul-le-mul, arith, length-append, length-set}
+use Rattle.std.proofs.Common.{◌≡◌, ℕ, suc, ◌+◌, ◌-◌, ◌<◌, ◌≤◌, true, false, List, [], ◌∷◌, ◌++◌, length, get_or, take, set, Some, None, sym, refl, ap, ◌∙◌, subst, ⊎_elim, mul-le-mul, arith, length-append}
 use Rattle.std.proofs.lemmas.List.{length-take, length-take-le, length-map, take_more_set, get_or-map, get_or-take}
 use Rattle.std.proofs.lemmas.Bool.{cases_lt}
 use Rattle.model.specs.declared.cell.Cell.{Cell}
 use Rattle.model.specs.declared.path.Entry.{Entry}
 use Rattle.model.specs.declared.path.Side.{Side}
 use Rattle.model.specs.declared.table.ProblemTable.{ProblemTable}
-use Rattle.model.specs.Problems.{Problem, steps}
-use Rattle.model.specs.Plans.{Cells, Pins}
+use Rattle.model.specs.Problems.{steps}
+use Rattle.model.specs.Plans.{Cells}
 use Rattle.model.specs.Held.{problem_of}
 use Rattle.model.specs.Choices.{Fair}
 use Rattle.model.specs.Firsts.{First, NoneAgrees}

@@ -1,24 +1,23 @@
 -- What marks at rest say of the plans that agree with the path. Assumes nothing.
-use Rattle.std.proofs.Common.{◌≡◌, ℕ, ◌*◌, ◌<◌, Bool, true, false, not, ◌&&◌, ◌||◌, eqb, ltb, ◌⊎◌, List, [], ◌∷◌, sym, refl, ap, ◌∙◌, subst, inl, inr, ⊎_elim, arith}
-use Rattle.std.proofs.lemmas.Bool.{both_ways, cases_Bool, cond-true, cond-false, and_parts, and_from, or_cases, or_left, or_right, not-true, lt-ltb}
+use Rattle.std.proofs.Common.{◌≡◌, ℕ, ◌*◌, ◌<◌, Bool, true, false, ◌&&◌, ◌⊎◌, List, [], ◌∷◌, sym, refl, ap, ◌∙◌, subst, inl, inr, ⊎_elim, arith}
+use Rattle.std.proofs.lemmas.Bool.{both_ways, cases_Bool, cond-true, cond-false, and_from, or_cases, or_right, not-true, lt-ltb}
 use Rattle.model.specs.declared.cell.Cell.{Cell}
 use Rattle.model.specs.declared.path.Side.{Side}
 use Rattle.model.specs.declared.path.Side.TheVariants as side
 use Rattle.model.specs.declared.path.Entry.{Entry}
 use Rattle.model.specs.Problems.{Problem, WellFormed, steps}
-use Rattle.model.specs.Plans.{Cells, Pin, Pins, take, leave, unpinned, IsPlan, Keeps, state}
+use Rattle.model.specs.Plans.{Cells, Pin, Pins, take, leave, unpinned, IsPlan, Keeps}
 use Rattle.model.specs.Clauses.{Clauses, Kept as ClausesKept}
 use Rattle.model.specs.Marks.{true_at, taken, left_out, Mark as MarkOf, Frame, Closed, Contradiction as ContradictionOf, Forced as ForcedBy}
-use Rattle.model.specs.Paths.{at, takes, Follows, Agrees}
+use Rattle.model.specs.Paths.{Agrees}
 use Rattle.model.specs.Choices.{Absent, Fair}
-use Rattle.model.specs.Firsts.{Places, Ordered, Such, Same, NoneAgrees, Decided}
+use Rattle.model.specs.Firsts.{Ordered, Such, NoneAgrees, Decided}
 use Rattle.model.specs.Kept.{Next, Only}
 use Rattle.model.proofs.ContradictionNone.{contradiction_none}
 use Rattle.model.proofs.MarksSound.{marks_sound}
 use Rattle.model.proofs.MarksPlan.{marks_plan}
 use Rattle.model.proofs.KeptHold.{kept_hold}
-use Rattle.marks.specs.declared.mark.Mark.{Mark}
-use Rattle.marks.specs.declared.mark.Mark.TheVariants.{Fact, Taken, LeftOut}
+use Rattle.marks.specs.declared.mark.Mark.TheVariants.{Taken, LeftOut}
 use Rattle.marks.specs.declared.tables.Marks.{Marks}
 use Rattle.marks.specs.declared.index.Index.{Index}
 use Rattle.marks.specs.Grows.{on}

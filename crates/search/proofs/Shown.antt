@@ -1,16 +1,14 @@
 -- What the kept truth of a search shows, taken out of its truncation. Assumes nothing.
-use Rattle.std.proofs.Common.{◌≡◌, ℕ, zero, suc, ◌+◌, ◌-◌, ◌*◌, ◌<◌, ◌≤◌, Bool, true, false, List, [], ◌∷◌, ◌++◌, length, get_or, set, sym, refl, ap, ◌∙◌, subst, add-one, arith}
+use Rattle.std.proofs.Common.{◌≡◌, ℕ, suc, ◌+◌, ◌-◌, ◌*◌, ◌<◌, ◌≤◌, true, false, List, [], ◌∷◌, ◌++◌, length, get_or, set, sym, ap, subst, add-one, arith}
 use native.Mathlib.Bridge.{le_prop}
 use native.Mathlib.Nat.{ℕ_set}
 use mathlib.Core.Bool.{Bool-set}
 use mathlib.Core.HLevel.{⊥_prop}
 use mathlib.Core.Logic.{∥∥₁_elim, ∥∥₁_map}
 use Rattle.model.specs.declared.cell.Cell.{Cell}
-use Rattle.model.specs.declared.path.Entry.{Entry}
 use Rattle.model.specs.Problems.{Problem, steps}
 use Rattle.model.specs.Plans.{Cells, Pins}
 use Rattle.model.specs.Clauses.{Clauses}
-use Rattle.model.specs.Choices.{Fair}
 use Rattle.model.specs.Firsts.{Ordered, Such, NoneAgrees, First}
 use Rattle.model.specs.Kept.{Kept, Next, Only}
 use Rattle.model.proofs.KeptOnce.{kept_prop}

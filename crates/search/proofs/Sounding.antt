@@ -1,7 +1,7 @@
 -- What a search keeps true, through a choice and its taking back. Assumes nothing.
-use Rattle.std.proofs.Common.{◌≡◌, ℕ, zero, suc, ◌+◌, ◌*◌, ◌<◌, ◌≤◌, Bool, true, false, ◌≢◌, ◌⊎◌, List, [], ◌∷◌, ◌++◌, map, length, get_or, take, set, sym, refl, ap, ◌∙◌, subst, inl, inr, ⊎_elim, add-one, arith, get_or-set_other, get_or-set_same}
+use Rattle.std.proofs.Common.{◌≡◌, ℕ, suc, ◌+◌, ◌*◌, ◌<◌, ◌≤◌, true, false, ◌≢◌, List, [], ◌∷◌, ◌++◌, length, get_or, take, set, sym, refl, ap, ◌∙◌, subst, ⊎_elim, add-one, arith, get_or-set_other, get_or-set_same}
 use Rattle.std.proofs.lemmas.List.{append_assoc, take_more_set}
-use Rattle.std.proofs.lemmas.Bool.{both_ways, cases_eq, and_from, or_left, or_right, lt-ltb}
+use Rattle.std.proofs.lemmas.Bool.{cases_eq, and_from, or_left, or_right, lt-ltb}
 use Rattle.model.specs.declared.cell.Cell.{Cell}
 use Rattle.model.specs.declared.path.Side.{Side}
 use Rattle.model.specs.declared.path.Side.TheVariants as side
@@ -9,9 +9,9 @@ use Rattle.model.specs.declared.path.Entry.{Entry}
 use Rattle.model.specs.Problems.{Problem, WellFormed, steps}
 use Rattle.model.specs.Plans.{Cells, Pins, unpinned}
 use Rattle.model.specs.Clauses.{Clauses, Largest}
-use Rattle.model.specs.Paths.{Agrees, LeftOf, taken}
+use Rattle.model.specs.Paths.{taken}
 use Rattle.model.specs.Choices.{Absent, Fair}
-use Rattle.model.specs.Firsts.{Places, Ordered, Such, NoneLeft, Lowest}
+use Rattle.model.specs.Firsts.{Places, Ordered, Such}
 use Rattle.model.specs.Kept.{Kept}
 use Rattle.model.proofs.Keeping.{fair_front, kept_none}
 use Rattle.marks.specs.declared.mark.Mark.{Mark}
@@ -27,7 +27,7 @@ use Rattle.marks.specs.Meaning.{Means}
 use Rattle.marks.proofs.Undone.{restored}
 use Rattle.search.specs.declared.level.Level.{Level}
 use Rattle.search.specs.Pinned.{pin_of, with_path, InRange}
-use Rattle.search.specs.Levels.{cell_at, no_level, entry_of, path_at, told, Lower, Levels}
+use Rattle.search.specs.Levels.{cell_at, no_level, entry_of, path_at, told, Lower}
 use Rattle.search.specs.Ordering.{places_in}
 use Rattle.search.specs.Sound.{Sound, Rooted}
 use Rattle.search.proofs.PinnedPath.{own_cell, with_absent}

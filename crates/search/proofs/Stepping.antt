@@ -1,7 +1,7 @@
 -- The levels of a search, with one more and with one less. Assumes nothing.
-use Rattle.std.proofs.Common.{◌≡◌, ℕ, zero, suc, ◌+◌, ◌*◌, ◌<◌, ◌≤◌, Bool, true, false, ◌||◌, ◌≢◌, ◌⊎◌, List, [], ◌∷◌, ◌++◌, map, length, get_or, take, set, sym, refl, ap, ◌∙◌, subst, inl, inr, ⊎_elim, add-one, arith, get_or-set_other}
+use Rattle.std.proofs.Common.{◌≡◌, ℕ, zero, suc, ◌<◌, ◌≤◌, true, false, ◌≢◌, List, [], ◌∷◌, ◌++◌, map, length, get_or, take, set, sym, ap, ◌∙◌, subst, ⊎_elim, add-one, arith, get_or-set_other}
 use Rattle.std.proofs.lemmas.List.{map-append, take_more, take-set-le}
-use Rattle.std.proofs.lemmas.Bool.{both_ways, or_cases, or_left, or_right, cases_eq}
+use Rattle.std.proofs.lemmas.Bool.{both_ways, or_cases, or_left, or_right}
 use Rattle.model.specs.declared.cell.Cell.{Cell}
 use Rattle.model.specs.declared.path.Entry.{Entry}
 use Rattle.model.specs.Plans.{Pins}
@@ -9,7 +9,7 @@ use Rattle.marks.specs.declared.mark.Mark.{Mark}
 use Rattle.marks.specs.declared.mark.Mark.TheVariants.{Taken, LeftOut}
 use Rattle.marks.specs.declared.tables.Marks.{Marks}
 use Rattle.marks.specs.declared.index.Index.{Index}
-use Rattle.marks.specs.Tables.{mark_at, in_trail}
+use Rattle.marks.specs.Tables.{mark_at}
 use Rattle.marks.specs.Grows.{on, Grows, Retreated}
 use Rattle.marks.specs.Rules.{Rest, seeds}
 use Rattle.marks.proofs.Growth.{grows_trans}

@@ -1,5 +1,5 @@
 -- A choice turned, dropped or added, as a search makes it. Assumes nothing.
-use Rattle.std.proofs.Common.{◌≡◌, ℕ, ◌+◌, ◌<◌, ◌≤◌, Bool, ◌&&◌, ltb, List, [], ◌∷◌, ◌++◌, get_or, Some, sym, refl, ap, ◌∙◌, subst, subst₂}
+use Rattle.std.proofs.Common.{◌≡◌, ℕ, ◌+◌, ◌<◌, ◌&&◌, ltb, List, [], ◌∷◌, ◌++◌, get_or, Some, sym, ap, ◌∙◌, subst, subst₂}
 use Rattle.std.proofs.lemmas.List.{append_assoc}
 use Rattle.sets.specs.Sets.{step_in, no_steps}
 use Rattle.sets.specs.declared.steps.StepSet.{StepSet}
@@ -11,13 +11,13 @@ use Rattle.model.specs.Problems.{steps}
 use Rattle.model.specs.Plans.{Cells}
 use Rattle.model.specs.Held.{problem_of}
 use Rattle.model.specs.Paths.{left, taken}
-use Rattle.model.specs.Choices.{Choice, Choice.adds, Choice.turns, Fair, Walk}
+use Rattle.model.specs.Choices.{Choice, Fair, Walk}
 use Rattle.model.specs.Firsts.{First, NoneAgrees}
 use Rattle.model.proofs.Keeping.{kept_turn, kept_pop, kept_add, walk_step}
 use Rattle.search.specs.declared.level.Level.{Level}
 use Rattle.search.specs.declared.tables.Search.{Search}
 use Rattle.marks.specs.Cells.{CellsOf}
-use Rattle.search.specs.Levels.{cell_at, entry_of, taken_by}
+use Rattle.search.specs.Levels.{cell_at, taken_by}
 use Rattle.search.specs.Ordering.{places_in}
 use Rattle.search.specs.Looks.{Ask, asked, cells, Wanted, path_of, KeptFor, Choosable, Fits, Undone, plan_of}
 use Rattle.search.proofs.Searches.{kept_now}

@@ -1,5 +1,5 @@
 -- What a search is after each call that begins it anew. Assumes nothing.
-use Rattle.std.specs.Prelude.{◌≡◌, ℕ, ◌*◌, ◌<◌, List, []}
+use Rattle.std.specs.Prelude.{◌≡◌, ℕ, ◌*◌, ◌<◌, []}
 use Rattle.model.specs.declared.cell.Cell.{Cell}
 use Rattle.model.specs.Problems.{Problem, steps}
 use Rattle.model.specs.Plans.{Pin, unpinned}

@@ -1,5 +1,5 @@
 -- The order that a table of cells gives. Assumes nothing.
-use Rattle.std.specs.Prelude.{ℕ, zero, suc, cond, List, [], ◌∷◌}
+use Rattle.std.specs.Prelude.{ℕ, suc, cond, List, [], ◌∷◌}
 use Rattle.model.specs.declared.cell.Cell.{Cell}
 use Rattle.model.specs.Firsts.{Places}
 use Rattle.search.specs.Levels.{cell_at}

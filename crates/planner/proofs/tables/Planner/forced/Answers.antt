@@ -1,4 +1,3 @@
-use Rattle.std.proofs.Common.{arith}
 use Rattle.model.specs.Answers.{forced_number}
 use Rattle.planner.proofs.Obeying.{forced_obeys}
 use Rattle.planner.proofs.tables.Planner.forced.Goals as goal

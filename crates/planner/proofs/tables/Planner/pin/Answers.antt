@@ -1,4 +1,4 @@
-use Rattle.std.proofs.Common.{◌≡◌, ℕ, sym, refl, ap, ◌∙◌, arith, rules}
+use Rattle.std.proofs.Common.{◌≡◌, ℕ, sym, refl, ap, ◌∙◌, arith}
 use Rattle.std.proofs.lemmas.Result.{err_from_is_err_and}
 use Rattle.marks.specs.Pinning.{pins_of, pin_of}
 use Rattle.model.specs.Plans.{unpinned}
@@ -7,7 +7,7 @@ use Rattle.planner.proofs.Obeying.{pin_breaks, pin_obeys}
 use Rattle.planner.proofs.tables.Planner.pin.Goals as goal
 
 pub invariant_of-self : goal.invariant_of-self
-invariant_of-self c = record { ended = ∣ tt ∣₁; }
+invariant_of-self c = record { ended = ∣ tt ∣₁ }
 
 pub returns-clause-began : goal.returns-clause-began
 returns-clause-began c =

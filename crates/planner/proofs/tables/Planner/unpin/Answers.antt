@@ -4,7 +4,7 @@ use Rattle.planner.proofs.Obeying.{unpin_breaks, unpin_obeys}
 use Rattle.planner.proofs.tables.Planner.unpin.Goals as goal
 
 pub invariant_of-self : goal.invariant_of-self
-invariant_of-self c = record { ended = ∣ tt ∣₁; }
+invariant_of-self c = record { ended = ∣ tt ∣₁ }
 
 pub returns-in_err-freed-clause-obeys : goal.returns-in_err-freed-clause-obeys
 returns-in_err-freed-clause-obeys c =

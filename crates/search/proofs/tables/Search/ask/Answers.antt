@@ -1,4 +1,4 @@
-use Rattle.std.proofs.Common.{◌≡◌, ℕ, ◌*◌, ◌≤◌, true, length, sym, refl, ap, ◌∙◌, subst, mul-le-mul, arith}
+use Rattle.std.proofs.Common.{◌≡◌, ℕ, ◌*◌, ◌≤◌, true, length, sym, refl, ◌∙◌, subst, mul-le-mul, arith}
 use Rattle.model.specs.Problems.{steps}
 use Rattle.model.specs.Held.{problem_of}
 use Rattle.model.specs.Rankings.{EachOnce, Copied}
@@ -25,8 +25,8 @@ invariant_of-self g c =
       order_sized = long;
       levels_sized = s.levels_sized;
       sound = asks_anew s T c.copy_order.new.table (pins_of c.none-self.result) c.work_out-self.result c.work_out-self.new.marks
-        (ordered T m c.copy_order.new.table once (omega (arith, small, long))) (range_none (pins_of c.none-self.result) T m c.none-self.ensures)
-        c.work_out-self.ensures.begun c.work_out-self.ensures.cells;
+          (ordered T m c.copy_order.new.table once (omega (arith, small, long))) (range_none (pins_of c.none-self.result) T m c.none-self.ensures)
+          c.work_out-self.ensures.begun c.work_out-self.ensures.cells;
     }
 
 pub returns : goal.returns

@@ -1,4 +1,4 @@
-use Rattle.std.proofs.Common.{◌≡◌, ℕ, ◌*◌, ◌≤◌, length, ap, mul-le-mul, arith}
+use Rattle.std.proofs.Common.{ℕ, ◌*◌, ◌≤◌, ap, mul-le-mul, arith}
 use Rattle.std.proofs.lemmas.List.{length-take}
 use Rattle.search.proofs.tables.Search.cell_count.Goals as goal
 

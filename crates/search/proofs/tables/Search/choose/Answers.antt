@@ -1,5 +1,4 @@
-use Rattle.std.proofs.Common.{length, set, sym, refl, ap, ◌∙◌, arith, length-set}
-use Rattle.search.specs.declared.level.Level.{Level}
+use Rattle.std.proofs.Common.{length, set, refl, ap, ◌∙◌, arith, length-set}
 use Rattle.search.proofs.Searches.{room, fits_room, fits_time, chosen, path_pushed}
 use Rattle.search.proofs.tables.Search.choose.Goals as goal
 
@@ -19,8 +18,8 @@ invariant_of-self c =
       order_sized = s.order_sized;
       levels_sized = ap length after ∙ length-set s.levels s.depth _ ∙ s.levels_sized;
       sound = chosen s c.args.place c.args.side c.requires c.decide.new.self c.push-depth.new.levels c.push-depth.result
-        (after ∙ ap (λ n. set s.levels s.depth (record { place = c.args.place; side = c.args.side; trail = n })) c.count-trail.ensures)
-        c.push-depth.ensures.len (c.decide.ensures.decided (fits_time s c.args.place c.args.side c.requires));
+          (after ∙ ap (λ n. set s.levels s.depth (record { place = c.args.place; side = c.args.side; trail = n })) c.count-trail.ensures)
+          c.push-depth.ensures.len (c.decide.ensures.decided (fits_time s c.args.place c.args.side c.requires));
     }
 
 pub returns : goal.returns

@@ -13,6 +13,6 @@ invariant_of-self c =
       order_sized = s.order_sized;
       levels_sized = s.levels_sized;
       sound = begins_anew s (pins_of c.set.new.self) c.work_out-self.result c.work_out-self.new.marks
-        (range_with (pins_of s.pins) (pins_of c.set.new.self) s.length (steps (problem_of s.problem)) c.args.cell (pin_of c.args.side) (inl c.requires) (range_now s) c.set.ensures)
-        c.work_out-self.ensures.begun c.work_out-self.ensures.cells;
+          (range_with (pins_of s.pins) (pins_of c.set.new.self) s.length (steps (problem_of s.problem)) c.args.cell (pin_of c.args.side) (inl c.requires) (range_now s) c.set.ensures)
+          c.work_out-self.ensures.begun c.work_out-self.ensures.cells;
     }

@@ -1,5 +1,5 @@
-use Rattle.std.proofs.Common.{sym, refl, ap, ◌∙◌, subst}
-use Rattle.model.specs.Choices.{Walk, Walk.stay}
+use Rattle.std.proofs.Common.{refl, ◌∙◌}
+use Rattle.model.specs.Choices.{Walk}
 use Rattle.search.proofs.Turning.{walk_on, plan_found}
 use Rattle.search.proofs.tables.Search.run.Goals as goal
 

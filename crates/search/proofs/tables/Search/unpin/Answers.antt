@@ -14,6 +14,6 @@ invariant_of-self c =
       order_sized = s.order_sized;
       levels_sized = s.levels_sized;
       sound = begins_anew s (pins_of c.clear.new.self) c.work_out-self.result c.work_out-self.new.marks
-        (range_with (pins_of s.pins) (pins_of c.clear.new.self) s.length (steps (problem_of s.problem)) c.args.cell unpinned (inr refl) (range_now s) c.clear.ensures)
-        c.work_out-self.ensures.begun c.work_out-self.ensures.cells;
+          (range_with (pins_of s.pins) (pins_of c.clear.new.self) s.length (steps (problem_of s.problem)) c.args.cell unpinned (inr refl) (range_now s) c.clear.ensures)
+          c.work_out-self.ensures.begun c.work_out-self.ensures.cells;
     }
