@@ -24,7 +24,7 @@ use Rattle.planner.specs.Promises.{CardOf, FirstPlan, Reports}
 use Rattle.planner.specs.Obeys.{Obeys, ledger, path, reply}
 use Rattle.planner.proofs.Entering.{asked_same}
 use Rattle.jobs.specs.JobCards.{PlanOf, step_count, cell_in, JobCard, JobCard.first_plan, JobCard.no_plan, JobCard.still_open, Written, JobAnswered}
-use Rattle.jobs.specs.Running.{Stretch, RanOut}
+use Rattle.jobs.specs.Running.{Begun, Stretch, RanOut}
 
 -- the ledger of a job that is asked
 abbrev pub job_ledger : Job → Problem → ℕ → Ledger
