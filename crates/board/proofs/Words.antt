@@ -8,7 +8,7 @@ use Rattle.board.specs.declared.command.Word.TheVariants as word_is
 use Rattle.board.specs.declared.field.SourceName.{SourceName}
 use Rattle.board.specs.declared.field.SourceName.TheVariants.{Sheet, Water}
 use Rattle.board.specs.Fields.{Number, SourceIs}
-use Rattle.board.specs.Commands.{Spells, Begins, InFields, FieldsOf, headed, word_of}
+use Rattle.board.specs.Commands.{Spells, Begins, FieldsOf, headed, word_of}
 
 pub spells_begins : (c : Command) (w : Word) (s : List ℕ) → ((v : Word) (f : List ℕ) → s ≡ headed v f → w ≡ v) → Spells c s → Begins c w s
 spells_begins c w s only p =

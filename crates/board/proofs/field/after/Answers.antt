@@ -1,4 +1,4 @@
-use Rattle.std.proofs.Common.{◌≡◌, ◌≤◌, ◌++◌, length, get_or, sym, ap, ◌∙◌, arith, length-append}
+use Rattle.std.proofs.Common.{◌++◌, length, get_or, sym, ap, ◌∙◌, arith, length-append}
 use lib.ListN.{get_or-append}
 use Rattle.std.proofs.lemmas.List.{take_rest}
 use Rattle.board.proofs.Spelling.{prefix_told}

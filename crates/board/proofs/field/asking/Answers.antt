@@ -1,4 +1,4 @@
-use Rattle.std.proofs.Common.{subst, rules}
+use Rattle.std.proofs.Common.{subst}
 use Rattle.board.specs.Fields.{NoBlank, ranking_word}
 use Rattle.board.proofs.Cutting.{has_blank, asks_parts}
 use Rattle.board.proofs.field.asking.Goals as goal

@@ -1,4 +1,4 @@
-use Rattle.std.proofs.Common.{arith, rules}
+use Rattle.std.proofs.Common.{arith}
 use Rattle.board.proofs.Cutting.{cut_at, before_blank}
 use Rattle.board.proofs.field.cut.Goals as goal
 

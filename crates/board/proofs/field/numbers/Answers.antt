@@ -1,4 +1,4 @@
-use Rattle.std.proofs.Common.{subst, rules}
+use Rattle.std.proofs.Common.{subst}
 use Rattle.board.specs.Fields.{NoBlank}
 use Rattle.board.proofs.Cutting.{has_blank, numbers_parts}
 use Rattle.board.proofs.field.numbers.Goals as goal
