@@ -11,7 +11,6 @@ mod tests {
     use sources::filter::ReachFilter;
     use sources::forward::Forward;
     use sources::water::WaterLine;
-    use std::process::Abort;
     use std::test::Fail;
 
     #[test]
@@ -25,7 +24,7 @@ mod tests {
             Err(e) => {
                 assert!(rt; e.number() == 31);
                 Ok(())
-            },
+            }
         }
     }
 
@@ -58,20 +57,26 @@ mod tests {
         Ok(())
     }
 
-    fn same_sets(rt: &impl Abort, a: LiteralSet, b: LiteralSet) {
+    fn same_sets(a: LiteralSet, b: LiteralSet) -> Result<(), Fail> {
         for l in 0..128 {
-            assert!(rt; a.contains(l) == b.contains(l));
+            if a.contains(l) != b.contains(l) {
+                return Err(Fail::new("another set"));
+            }
         }
+        Ok(())
     }
 
-    fn same_steps<A: ProblemSource, B: ProblemSource>(rt: &impl Abort, a: &A, b: &B) {
+    fn same_steps<A: ProblemSource, B: ProblemSource>(a: &A, b: &B) -> Result<(), Fail> {
         for o in 0..256 {
             let x = a.step(o);
             let y = b.step(o);
-            assert!(rt; x.enabled == y.enabled);
-            same_sets(rt, x.needs, y.needs);
-            same_sets(rt, x.makes, y.makes);
+            if x.enabled != y.enabled {
+                return Err(Fail::new("another step"));
+            }
+            same_sets(x.needs, y.needs)?;
+            same_sets(x.makes, y.makes)?;
         }
+        Ok(())
     }
 
     // The line of one meter and the same riser as a sheet answer alike.
@@ -89,13 +94,11 @@ mod tests {
             Err(_) => return Err(Fail::new("declined")),
         }
         assert!(rt; line.facts() == sheet.facts() && line.steps() == sheet.steps());
-        same_steps(&rt, &line, &sheet);
-        same_sets(&rt, line.goal(), sheet.goal());
+        same_steps(&line, &sheet)?;
+        same_sets(line.goal(), sheet.goal())?;
         same_sets(
-            &rt,
             LiteralSet::new(line.start(), line.start()),
             LiteralSet::new(sheet.start(), sheet.start()),
-        );
-        Ok(())
+        )
     }
 }

@@ -7,7 +7,6 @@ mod tests {
     use sources::by_step::ByStep;
     use sources::forward::Forward;
     use sources::water::WaterLine;
-    use std::process::Abort;
     use std::test::Fail;
 
     fn line(meters: usize) -> Result<WaterLine, Fail> {
@@ -17,13 +16,16 @@ mod tests {
         }
     }
 
-    fn declines<T: Drop>(rt: &impl Abort, r: Result<T, Decline>, by: Decline) -> Result<(), Fail> {
+    fn declines<T: Drop>(r: Result<T, Decline>, by: Decline) -> Result<(), Fail> {
         match r {
             Ok(_) => Err(Fail::new("not declined")),
             Err(e) => {
-                assert!(rt; e == by);
-                Ok(())
-            },
+                if e == by {
+                    Ok(())
+                } else {
+                    Err(Fail::new("declined with another number"))
+                }
+            }
         }
     }
 
@@ -34,79 +36,85 @@ mod tests {
         }
     }
 
-    fn says(rt: &impl Abort, r: Result<Outcome, Decline>, outcome: Outcome) -> Result<(), Fail> {
+    fn says(r: Result<Outcome, Decline>, outcome: Outcome) -> Result<(), Fail> {
         match r {
             Ok(o) => {
-                assert!(rt; o == outcome);
-                Ok(())
-            },
+                if o == outcome {
+                    Ok(())
+                } else {
+                    Err(Fail::new("another outcome"))
+                }
+            }
             Err(_) => Err(Fail::new("declined")),
         }
     }
 
     // Each refusal with its number's reason, smallest first.
     #[test]
-    fn refusals(rt: HostRuntime) -> Result<(), Fail> {
+    fn refusals() -> Result<(), Fail> {
         let mut planner = Planner::new();
-        declines(&rt, planner.run(0), Decline::Unopened)?;
-        declines(&rt, planner.ask(33, &Forward), Decline::Unopened)?;
+        declines(planner.run(0), Decline::Unopened)?;
+        declines(planner.ask(33, &Forward), Decline::Unopened)?;
         planner.open(&line(1)?);
-        declines(&rt, planner.pin(9, 99, true), Decline::Unasked)?;
-        declines(&rt, planner.ask(33, &Forward), Decline::TooLong)?;
+        declines(planner.pin(9, 99, true), Decline::Unasked)?;
+        declines(planner.ask(33, &Forward), Decline::TooLong)?;
         done(planner.ask(6, &Forward))?;
-        declines(&rt, planner.pin(6, 0, true), Decline::OutOfRange)?;
-        declines(&rt, planner.pin(0, 9, true), Decline::OutOfRange)?;
-        declines(&rt, planner.unpin(0, 0), Decline::Unpinned)?;
+        declines(planner.pin(6, 0, true), Decline::OutOfRange)?;
+        declines(planner.pin(0, 9, true), Decline::OutOfRange)?;
+        declines(planner.unpin(0, 0), Decline::Unpinned)?;
         done(planner.pin(0, 0, false))?;
-        declines(&rt, planner.pin(0, 0, true), Decline::Pinned)?;
-        declines(&rt, planner.run(0), Decline::Grant)?;
-        declines(&rt, planner.run(1000001), Decline::Grant)?;
-        declines(&rt, planner.report(&mut [0; 7]), Decline::TooShort)
+        declines(planner.pin(0, 0, true), Decline::Pinned)?;
+        declines(planner.run(0), Decline::Grant)?;
+        declines(planner.run(1000001), Decline::Grant)?;
+        declines(planner.report(&mut [0; 7]), Decline::TooShort)
     }
 
     // Length 5 is too short for one meter; at 6 a pin may demand another plan, or rule out all.
     #[test]
-    fn pinned(rt: HostRuntime) -> Result<(), Fail> {
+    fn pinned() -> Result<(), Fail> {
         let mut planner = Planner::new();
         planner.open(&line(1)?);
         done(planner.ask(5, &ByStep))?;
-        says(&rt, planner.run(1000000), Outcome::NoPlan)?;
+        says(planner.run(1000000), Outcome::NoPlan)?;
         done(planner.ask(6, &ByStep))?;
-        says(&rt, planner.run(1000000), Outcome::Plan)?;
-        says(&rt, planner.run(1), Outcome::Plan)?;
+        says(planner.run(1000000), Outcome::Plan)?;
+        says(planner.run(1), Outcome::Plan)?;
         done(planner.pin(0, 2, false))?;
-        says(&rt, planner.run(1000000), Outcome::NoPlan)?;
+        says(planner.run(1000000), Outcome::NoPlan)?;
         done(planner.unpin(0, 2))?;
-        says(&rt, planner.run(1000000), Outcome::Plan)
+        says(planner.run(1000000), Outcome::Plan)
     }
 
-    fn tells(rt: &impl Abort, r: Result<Forced, Decline>, forced: Forced) -> Result<(), Fail> {
+    fn tells(r: Result<Forced, Decline>, forced: Forced) -> Result<(), Fail> {
         match r {
             Ok(f) => {
-                assert!(rt; f == forced);
-                Ok(())
-            },
+                if f == forced {
+                    Ok(())
+                } else {
+                    Err(Fail::new("another answer"))
+                }
+            }
             Err(_) => Err(Fail::new("declined")),
         }
     }
 
     // What the pins force of cells, before and after a pin that rules every plan out, and without a look at what a run found.
     #[test]
-    fn forced_cells(rt: HostRuntime) -> Result<(), Fail> {
+    fn forced_cells() -> Result<(), Fail> {
         let mut planner = Planner::new();
         planner.open(&line(1)?);
-        declines(&rt, planner.forced(0, 0), Decline::Unasked)?;
+        declines(planner.forced(0, 0), Decline::Unasked)?;
         done(planner.ask(6, &Forward))?;
-        declines(&rt, planner.forced(6, 0), Decline::OutOfRange)?;
-        says(&rt, planner.run(1000000), Outcome::Plan)?;
-        tells(&rt, planner.forced(0, 2), Forced::Taken)?;
-        tells(&rt, planner.forced(0, 1), Forced::LeftOut)?;
-        tells(&rt, planner.forced(0, 0), Forced::Undecided)?;
-        tells(&rt, planner.forced(1, 0), Forced::Undecided)?;
+        declines(planner.forced(6, 0), Decline::OutOfRange)?;
+        says(planner.run(1000000), Outcome::Plan)?;
+        tells(planner.forced(0, 2), Forced::Taken)?;
+        tells(planner.forced(0, 1), Forced::LeftOut)?;
+        tells(planner.forced(0, 0), Forced::Undecided)?;
+        tells(planner.forced(1, 0), Forced::Undecided)?;
         done(planner.pin(0, 0, false))?;
-        tells(&rt, planner.forced(1, 0), Forced::Taken)?;
+        tells(planner.forced(1, 0), Forced::Taken)?;
         done(planner.pin(0, 2, false))?;
-        tells(&rt, planner.forced(5, 8), Forced::Contradiction)
+        tells(planner.forced(5, 8), Forced::Contradiction)
     }
 
     // A list of calls, carried out as far as there are places for answers.
@@ -128,7 +136,7 @@ mod tests {
             Answer::Wrote(n) => {
                 assert!(rt; n == 36);
                 Ok(())
-            },
+            }
             _ => Err(Fail::new("no card")),
         }
     }

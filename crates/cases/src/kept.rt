@@ -45,11 +45,10 @@ mod tests {
 
     #[test]
     fn counts(rt: HostRuntime) -> Result<(), Fail> {
-        assert!(rt;
-            kept(&problem(
-                b"MXP 1\nl 2\nf wet\nf done\nt wet\nw done\ns dry\nn wet\nm -wet\ns fit\nn -wet\nm done\n",
-            )?,) == 3
-        );
+        let sheet = problem(
+            b"MXP 1\nl 2\nf wet\nf done\nt wet\nw done\ns dry\nn wet\nm -wet\ns fit\nn -wet\nm done\n",
+        )?;
+        assert!(rt; kept(&sheet) == 3);
         assert!(rt; meters(1)? == 26);
         assert!(rt; meters(8)? == 201);
         Ok(())

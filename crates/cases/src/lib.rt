@@ -10,28 +10,25 @@ mod marked;
 mod tests {
     use jobs::answer;
     use planner::tables::Planner;
-    use std::process::Abort;
     use std::test::Fail;
 
     // The answer to a sheet is just these bytes.
-    fn gives(
-        rt: &impl Abort,
-        planner: &mut Planner,
-        sheet: &[u8],
-        card: &[u8],
-    ) -> Result<(), Fail> {
+    fn gives(planner: &mut Planner, sheet: &[u8], card: &[u8]) -> Result<(), Fail> {
         let mut out = [0u8; 4096];
         match answer(planner, sheet, &mut out) {
             Ok(n) if n <= 4096 => {
-                assert!(rt; &out[0..n] == card);
-                Ok(())
-            },
+                if &out[0..n] == card {
+                    Ok(())
+                } else {
+                    Err(Fail::new("another answer"))
+                }
+            }
             _ => Err(Fail::new("no answer")),
         }
     }
 
     #[test]
-    fn cards(rt: HostRuntime) -> Result<(), Fail> {
+    fn cards() -> Result<(), Fail> {
         let mut planner = Planner::new();
         let table: [(&[u8], &[u8]); 14] = [
             (
@@ -86,13 +83,13 @@ mod tests {
             ),
         ];
         for (sheet, card) in table {
-            gives(&rt, &mut planner, sheet, card)?;
+            gives(&mut planner, sheet, card)?;
         }
         Ok(())
     }
 
     #[test]
-    fn faults(rt: HostRuntime) -> Result<(), Fail> {
+    fn faults() -> Result<(), Fail> {
         let mut planner = Planner::new();
         let table: [(&[u8], &[u8]); 23] = [
             (
@@ -138,7 +135,7 @@ mod tests {
             ),
         ];
         for (sheet, card) in table {
-            gives(&rt, &mut planner, sheet, card)?;
+            gives(&mut planner, sheet, card)?;
         }
         Ok(())
     }

@@ -21,10 +21,10 @@ unfolding lit_in fact_in
 no_literal_in (pos f) = has_zero f
 no_literal_in (neg f) = has_zero f
 
-get_d_past : (xs : List LiteralSet) (k : ℕ) → length xs ≤ k → get_or xs k no_literals ≡ no_literals
-get_d_past [] k h = refl
-get_d_past (x ∷ xs) zero h = absurd (omega arith)
-get_d_past (x ∷ xs) (suc k) h = get_d_past xs k (omega arith)
+past_is_default : (xs : List LiteralSet) (k : ℕ) → length xs ≤ k → get_or xs k no_literals ≡ no_literals
+past_is_default [] k h = refl
+past_is_default (x ∷ xs) zero h = absurd (omega arith)
+past_is_default (x ∷ xs) (suc k) h = past_is_default xs k (omega arith)
 
 beyond_is_none : (n k : ℕ) (x : LiteralSet) → x ≡ no_literals → get_or (replicate n x) k no_literals ≡ no_literals
 beyond_is_none zero k x e = refl
@@ -42,14 +42,14 @@ rel_narrow m k l h = go (cases_lt (code k) 128)
     go : (code k < 128) ⊎ (128 ≤ code k) → code k < 128
     go (inl lt) = lt
     go (inr ge) =
-        let e = get_d_past m.rows (code k) (omega (arith, m.sized)) in
+        let e = past_is_default m.rows (code k) (omega (arith, m.sized)) in
         absurd (both_ways (lit_in (get_or m.rows (code k) no_literals) l) (ap (λ (s : LiteralSet). lit_in s l) e ∙ no_literal_in l) h)
 
 -- past the end of the table there are no pairs
 pub row_past : (m : Pairs) (a : ℕ) → 128 ≤ a → (l : Literal) → rel m (lit a) l ≡ false
 unfolding rel
 row_past m a h l =
-    let e = get_d_past m.rows (code (lit a)) (omega (arith, m.sized, code_lit a)) in ap (λ (s : LiteralSet). lit_in s l) e ∙ no_literal_in l
+    let e = past_is_default m.rows (code (lit a)) (omega (arith, m.sized, code_lit a)) in ap (λ (s : LiteralSet). lit_in s l) e ∙ no_literal_in l
 
 -- one literal left out of one row
 pub struck_row : (xs : List LiteralSet) (a b : ℕ) (s : LiteralSet) → a < length xs

@@ -1,7 +1,7 @@
 // From a job sheet's bytes to the bytes that answer it: the job card, or the fault line of a sheet that is declined.
 #![tactic(auto)]
 
-ghost use Rattle.std.specs.Result.{MatchResult};
+ghost use Rattle.std.specs.Prelude.{MatchResult};
 ghost use Rattle.sheet.specs.Stated.{stated};
 ghost use Rattle.planner.specs.Obeys.{ledger};
 ghost use Rattle.jobs.specs.Answering.{Answered};

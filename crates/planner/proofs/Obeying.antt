@@ -23,8 +23,7 @@ use Rattle.search.specs.Looks.{Ask, asked as asked_of, Ran}
 use Rattle.planner.specs.declared.tables.Planner.{Planner}
 use Rattle.planner.specs.declared.tables.Stage.{Stage}
 use Rattle.planner.specs.declared.tables.Stage.TheVariants as stage
-use Rattle.planner.specs.Ledger.{Ledger, Ledger.asked, Ledger.opened, Reply.declined, Reply.answered, unopened, unasked, out_of_range, is_pinned, pinned, bad_grant, first_fitting, pin_for, repin, problem, declines}
-use Rattle.planner.specs.Ledger.{Event.open_call, Event.ask_call, Event.pin_call, Event.unpin_call, Event.run_call, Event.forced_call, Event.report_call}
+use Rattle.planner.specs.Ledger.{Ledger, Ledger.asked, Ledger.opened, Reply.declined, Reply.answered, unopened, unasked, out_of_range, is_pinned, pinned, bad_grant, first_fitting, pin_for, repin, problem, declines, Event.open_call, Event.ask_call, Event.pin_call, Event.unpin_call, Event.run_call, Event.forced_call, Event.report_call}
 use Rattle.planner.specs.Promises.{CardOf}
 use Rattle.planner.specs.Obeys.{ledger_at, ledger, Obeys}
 use Rattle.planner.specs.Checks.{InRange, cell_rows}

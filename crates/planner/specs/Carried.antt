@@ -9,8 +9,7 @@ use Rattle.planner.specs.declared.call.Call.{Call}
 use Rattle.planner.specs.declared.call.Call.TheVariants as call
 use Rattle.planner.specs.declared.call.Answer.{Answer}
 use Rattle.planner.specs.declared.call.Answer.TheVariants as answer
-use Rattle.planner.specs.Ledger.{Event, Reply, Reply.declined, Reply.answered}
-use Rattle.planner.specs.Ledger.{Event.open_call, Event.ask_call, Event.pin_call, Event.unpin_call, Event.run_call, Event.forced_call, Event.path_call, Event.report_call}
+use Rattle.planner.specs.Ledger.{Event, Reply, Reply.declined, Reply.answered, Event.open_call, Event.ask_call, Event.pin_call, Event.unpin_call, Event.run_call, Event.forced_call, Event.path_call, Event.report_call}
 use Rattle.planner.specs.Obeys.{Fresh}
 use Rattle.planner.specs.Histories.{History, Lawful}
 

@@ -12,8 +12,7 @@ use Rattle.model.specs.Forcing.{ForcedSays}
 use Rattle.text.specs.Cards.{card_of, none_card, not_yet_card}
 use Rattle.text.specs.Written.{Stands}
 use Rattle.search.specs.Looks.{no_entry}
-use Rattle.planner.specs.Ledger.{Ledger, Event, Reply, Reply.declined, Reply.answered, problem, ask, declines}
-use Rattle.planner.specs.Ledger.{Event.open_call, Event.ask_call, Event.pin_call, Event.unpin_call, Event.run_call, Event.forced_call, Event.path_call, Event.report_call}
+use Rattle.planner.specs.Ledger.{Ledger, Event, Reply, Reply.declined, Reply.answered, problem, ask, declines, Event.open_call, Event.ask_call, Event.pin_call, Event.unpin_call, Event.run_call, Event.forced_call, Event.path_call, Event.report_call}
 
 -- a plan of the ledger's problem and length that keeps its pins
 abbrev pub SuchPlan : Ledger → Cells → Type 0

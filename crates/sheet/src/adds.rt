@@ -7,7 +7,7 @@ ghost use Rattle.sheet.specs.Entry.{First, Unknown, Stands};
 ghost use Rattle.sheet.specs.Job.{Adds, Flawed, mentions, literal, step_names, no_job};
 ghost use Rattle.sheet.specs.Joins.{With, Joins, NeedJoins, MakeJoins};
 ghost use Rattle.sheet.specs.Records.{job_step};
-ghost use Rattle.sheet.specs.Statement.{fact as fact-line, holds, wanted, step as step_line, need, make};
+ghost use Rattle.sheet.specs.Statement.{fact as fact_line, holds, wanted, step as step_line, need, make};
 ghost use Rattle.sheet.specs.Stated.{stated};
 ghost use Rattle.sheet.specs.declared.fault.SheetFault.{SheetFault};
 
@@ -138,8 +138,8 @@ impl SheetProblem {
 
     pub(crate) fn add_fact(&mut self, name: &[u8], field: Place) -> Result<(), SheetFault>
         requires { length name.now ≤ 15 }
-        ensures { MatchResult result (λ _. Adds (stated self.old) (fact-line name.now) (stated self.new))
-            (λ e. Flawed (stated self.old) (fact-line name.now) field e) }
+        ensures { MatchResult result (λ _. Adds (stated self.old) (fact_line name.now) (stated self.new))
+            (λ e. Flawed (stated self.old) (fact_line name.now) field e) }
     {
         if let Some(_) = self.find_fact(name) {
             return Err(SheetFault::Repeated(field));

@@ -18,7 +18,7 @@ use crate::problem::SheetProblem;
 // Adds what a line states, or says why it may not stand.
 fn add_line(problem: &mut SheetProblem, stated: Line, line: u32) -> Result<(), SheetFault>
     requires proper { Proper (meant stated) }
-    requires count_nonzero { in_step (kind_stated (meant stated)) ≡ true → 0 < problem.old.count }
+    requires begun { in_step (kind_stated (meant stated)) ≡ true → 0 < problem.old.count }
     ensures { MatchResult result (λ _. Adds (job problem.old) (meant stated.entry) (job problem.new))
         (λ e. Flawed (job problem.old) (meant stated.entry) (record { line = line; byte = field (meant stated.entry) }) e) }
 {
@@ -53,8 +53,8 @@ fn one_line<'a>(
     previous: Option<LineKind>,
     line: u32,
 ) -> Result<(LineKind, &'a [u8]), SheetFault>
-    requires rest_len_bound { length rest.now ≤ 65535 }
-    requires count_nonzero { after_step previous ≡ true → 0 < problem.old.count }
+    requires short { length rest.now ≤ 65535 }
+    requires begun { after_step previous ≡ true → 0 < problem.old.count }
     ensures { MatchResult result (λ x. (t : Statement) × Next rest.now t x.1.now × (x.0 ≡ kind_stated t) × (allowed previous (kind_stated t) ≡ true) × Adds (job problem.old) t (job problem.new))
         (λ e. Wrong rest.now previous (job problem.old) line e) }
 {
@@ -67,8 +67,8 @@ fn one_line<'a>(
 
 // Every line of the sheet, from the first on.
 fn read_lines(problem: &mut SheetProblem, sheet: &[u8]) -> Result<(), SheetFault>
-    requires sheet_len_bound { length sheet.now ≤ 65535 }
-    requires problem_value { job problem.old ≡ no_job }
+    requires short { length sheet.now ≤ 65535 }
+    requires fresh { job problem.old ≡ no_job }
     ensures { MatchResult result (λ _. Reads sheet.now (job problem.new)) (λ e. Broken sheet.now e ⊎ Stopped sheet.now e) }
 {
     let mut rest = sheet;

@@ -21,8 +21,8 @@ tabulate_within (suc n) row (suc i) d l = tabulate_within n (λ j. row (suc j)) 
 pub tabulate_past : {A : Type 0} (n : ℕ) (row : ℕ → A) (i : ℕ) (d : A) → n ≤ i → slice_index_or (tabulate n row) i d ≡ d
 tabulate_past n row i d l = get_or_past (tabulate n row) i d (omega (arith, length_tabulate n row))
 
-pub get_d_tabulate : {A : Type 0} (n : ℕ) (row : ℕ → A) (i : ℕ) (d : A) → slice_index_or (tabulate n row) i d ≡ cond (nat_lt i n) (row i) d
-get_d_tabulate n row i d =
+pub index_or_tabulate : {A : Type 0} (n : ℕ) (row : ℕ → A) (i : ℕ) (d : A) → slice_index_or (tabulate n row) i d ≡ cond (nat_lt i n) (row i) d
+index_or_tabulate n row i d =
     ⊎_elim
     (λ l. tabulate_within n row i d l ∙ sym (cond-true (nat_lt i n) (row i) d (lt-ltb i n l)))
     (λ l. tabulate_past n row i d l ∙ sym (cond-false (nat_lt i n) (row i) d (le-ltb i n l)))

@@ -12,7 +12,7 @@ use Rattle.sheet.proofs.reader.read_lines.Goals as goal
 
 pub loop-kind-init : goal.loop-kind-init
 loop-kind-init c =
-    (subst (λ (j : Job). Sofar c.args.sheet.now c.args.sheet.now None 1 j) (sym c.requires.problem_value) (at_first c.args.sheet.now c.requires.sheet_len_bound), inr refl, λ s. absurd (both_ways false refl s))
+    (subst (λ (j : Job). Sofar c.args.sheet.now c.args.sheet.now None 1 j) (sym c.requires.fresh) (at_first c.args.sheet.now c.requires.short), inr refl, λ s. absurd (both_ways false refl s))
 
 pub loop-kind-preserved : goal.loop-kind-preserved
 loop-kind-preserved c =
@@ -28,7 +28,7 @@ pub loop-kind-smaller : goal.loop-kind-smaller
 loop-kind-smaller c = let w = c.in_ok-kind.ensures in shorter c.loop-kind.rest.now w.0 c.in_ok-kind.after.now w.1
 
 pub one_line-requires : goal.one_line-requires
-one_line-requires c = record { rest_len_bound = omega (arith, c.loop-kind.invariant.0.room, c.loop-kind.invariant.0.count); count_nonzero = c.loop-kind.invariant.2 }
+one_line-requires c = record { short = omega (arith, c.loop-kind.invariant.0.room, c.loop-kind.invariant.0.count); begun = c.loop-kind.invariant.2 }
 
 pub returns-in_err-kind : goal.returns-in_err-kind
 returns-in_err-kind c =
@@ -39,7 +39,7 @@ returns-in_err-kind c =
 pub returns : goal.returns
 returns c =
     let w = c.in_ok-kind.ensures in
-    finished c.args.sheet.now c.in_ok-kind.after.now (Some c.in_ok-kind.kind) (c.loop-kind.line + 1) (stated c.one_line.new.problem) c.check_end.result c.requires.sheet_len_bound (omega (arith, c.loop-kind.invariant.0.count))
+    finished c.args.sheet.now c.in_ok-kind.after.now (Some c.in_ok-kind.kind) (c.loop-kind.line + 1) (stated c.one_line.new.problem) c.check_end.result c.requires.short (omega (arith, c.loop-kind.invariant.0.count))
     (subst (λ (k : LineKind). Sofar c.args.sheet.now c.in_ok-kind.after.now (Some k) (c.loop-kind.line + 1) (stated c.one_line.new.problem)) (sym w.2)
     (one_more c.args.sheet.now c.loop-kind.rest.now c.in_ok-kind.after.now c.loop-kind.previous c.loop-kind.line (stated c.loop-kind.problem) (stated c.one_line.new.problem) w.0 c.loop-kind.invariant.0 w.1 w.3 w.4))
     (none_left c.in_ok-kind.after.now c.if-is_empty.ensures) c.check_end.ensures
