@@ -79,7 +79,7 @@ fn bytes(heap: Global, count: usize) -> Result<Vec<u8>, AllocError> {
 }
 
 // The sheets at the limits, by number.
-pub fn sheet(heap: Global, which: usize) -> Result<Vec<u8>, AllocError> {
+pub(crate) fn sheet(heap: Global, which: usize) -> Result<Vec<u8>, AllocError> {
     match which {
         0 => facts(heap, 64),
         1 => facts(heap, 65),
