@@ -32,9 +32,6 @@ impl Planner {
         ensures obeys { Obeys self.now (report_call out.old (reply (λ n. n) result) out.new) self.now }
     {
         self.asked()?;
-        match self.write(out) {
-            Some(n) => Ok(n),
-            None => Err(Decline::TooShort),
-        }
+        self.write(out).ok_or(Decline::TooShort)
     }
 }
