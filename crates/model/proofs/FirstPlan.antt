@@ -1,7 +1,7 @@
 -- The plan at the end of a path, with none left of it, is the first; first plans are unique.
 use Rattle.std.proofs.Common.{◌≡◌, ℕ, zero, suc, ◌*◌, ◌<◌, Bool, true, false, ◌⊎◌, List, [], ◌∷◌, ◌++◌, sym, refl, ap, ◌∙◌, subst, inl, inr, ⊎_elim, lt_trans, arith}
-use mathlib.Core.Bool.{false≢true}
-use Rattle.std.proofs.lemmas.Bool.{both_ways, cases_lt, cases_eq}
+use Rattle.std.proofs.Math.Bool.{Bool-discrete}
+use Rattle.std.proofs.lemmas.Bool.{both_ways, cases_lt, cases_eq, true_from_ne_false, false_from_ne_true}
 use Rattle.model.specs.declared.cell.Cell.{Cell}
 use Rattle.model.specs.declared.path.Side.{Side}
 use Rattle.model.specs.declared.path.Side.TheVariants.{LeftOut, Taken}
@@ -23,20 +23,14 @@ pub record Parts (q : Cells) (path : List Entry) : Type 0 where
   pub front : Agrees q before
   pub off : at q entry.cell ≡ takes entry.side → ⊥
 
-follows? : (a b : Bool) → (a ≡ b) ⊎ (a ≡ b → ⊥)
-follows? true true = inl refl
-follows? true false = inr (λ e. false≢true (sym e))
-follows? false true = inr false≢true
-follows? false false = inl refl
-
 -- a plan follows the whole path, or there is a first entry that it does not follow
 pub parts : (q : Cells) (path : List Entry) → Agrees q path ⊎ Parts q path
 parts q [] = inl tt
-parts q (e ∷ path) = go (follows? (at q e.cell) (takes e.side)) (parts q path)
+parts q (e ∷ path) = go (Bool-discrete (at q e.cell) (takes e.side)) (parts q path)
   where
-    go : (Follows q e) ⊎ (Follows q e → ⊥) → Agrees q path ⊎ Parts q path → Agrees q (e ∷ path) ⊎ Parts q (e ∷ path)
-    go (inl k) (inl a) = inl (k, a)
-    go (inl k) (inr r) =
+    go : Dec (Follows q e) → Agrees q path ⊎ Parts q path → Agrees q (e ∷ path) ⊎ Parts q (e ∷ path)
+    go (yes k) (inl a) = inl (k, a)
+    go (yes k) (inr r) =
         inr (record {
           before = e ∷ r.before;
           entry = r.entry;
@@ -45,7 +39,7 @@ parts q (e ∷ path) = go (follows? (at q e.cell) (takes e.side)) (parts q path)
           front = (k, r.front);
           off = r.off;
         })
-    go (inr n) r = inr (record { before = []; entry = e; behind = path; whole = refl; front = tt; off = n })
+    go (no n) r = inr (record { before = []; entry = e; behind = path; whole = refl; front = tt; off = n })
 
 -- the cell of an entry of a fair path is in range
 pub fair_at : (T m : ℕ) (pins : Pins) (before : List Entry) (e : Entry) (behind : List Entry) → Fair T m pins (before ++ (e ∷ behind))
@@ -57,14 +51,6 @@ agrees_at : (p : Cells) (before : List Entry) (e : Entry) (behind : List Entry) 
     → Agrees p before × Follows p e
 agrees_at p [] e behind a = (tt, a.0)
 agrees_at p (x ∷ before) e behind a = let r = agrees_at p before e behind a.1 in ((a.0, r.0), r.1)
-
-other : (b : Bool) → (b ≡ false → ⊥) → b ≡ true
-other true n = refl
-other false n = absurd (n refl)
-
-other_false : (b : Bool) → (b ≡ true → ⊥) → b ≡ false
-other_false true n = absurd (n refl)
-other_false false n = refl
 
 -- what all such plans do one way is decided
 pub decided : (S : Cells → Type 0) (path : List Entry) (c : Cell) (b : Bool) → ((p : Cells) → S p → Agrees p path → at p c ≡ b)
@@ -96,8 +82,8 @@ module _ (S : Cells → Type 0) (T m : ℕ) (pins : Pins) (o : Places) (ord : Or
 
   by_side : (before : List Entry) (c : Cell) (s : Side) (behind : List Entry) → path ≡ before ++ (record { cell = c; side = s } ∷ behind)
       → Agrees q before → (at q c ≡ takes s → ⊥) → Before (T * m) o.cell p q
-  by_side before c LeftOut behind whole front off = at_left before c behind whole front (other (at q c) off)
-  by_side before c Taken behind whole front off = absurd (none q sq (before, c, behind, whole, front, other_false (at q c) off))
+  by_side before c LeftOut behind whole front off = at_left before c behind whole front (true_from_ne_false (at q c) off)
+  by_side before c Taken behind whole front off = absurd (none q sq (before, c, behind, whole, front, false_from_ne_true (at q c) off))
 
   compared : (Agrees q path → Same T m p q) → Agrees q path ⊎ Parts q path → Same T m p q ⊎ Before (T * m) o.cell p q
   compared one (inl a) = inl (one a)

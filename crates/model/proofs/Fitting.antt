@@ -1,5 +1,5 @@
 -- A table that holds a problem within the limits is itself within them.
-use Rattle.std.proofs.Common.{◌≡◌, ℕ, ◌≤◌, true, false, List, length, take, sym, subst, arith}
+use Rattle.std.proofs.Common.{◌≡◌, ℕ, true, false, List, sym, subst, arith}
 use Rattle.std.proofs.lemmas.Bool.{both_ways}
 use Rattle.sets.specs.Literals.{Literal, pos, neg}
 use Rattle.sets.specs.Sets.{lit_in, fact_in, no_facts, no_literals}
@@ -7,47 +7,17 @@ use Rattle.sets.specs.declared.facts.FactSet.{FactSet}
 use Rattle.sets.specs.declared.facts.LiteralSet.{LiteralSet}
 use Rattle.sets.proofs.Bits.{has_zero}
 use Rattle.model.specs.declared.step.Step.{Step}
-use Rattle.model.specs.Problems.{Problem, WellFormed, steps, empty_problem}
-use Rattle.model.specs.Tables.{FactsBelow, LiteralsBelow, NoOpposites, NeedsBelow, MakesBelow, NeedsAgree, MakesAgree}
+use Rattle.model.specs.Problems.{Problem, WellFormed, empty_problem}
 
 pub same_problem : {f f' : ℕ} {r r' : List Step} {s s' : FactSet} {g g' : LiteralSet} → f ≡ f' → r ≡ r' → s ≡ s' → g ≡ g'
     → ◌≡◌ {A = Problem} (record { facts = f; rows = r; start = s; goal = g }) (record { facts = f'; rows = r'; start = s'; goal = g' })
 same_problem ef er es eg = λ i. record { facts = ef i; rows = er i; start = es i; goal = eg i }
 
--- what a table's ghost fields say, nested as the checker asks for them
-abbrev pub Fits : ℕ → ℕ → List Step → FactSet → LiteralSet → Type 0
-Fits facts count table start goal =
-    (1 ≤ facts) × ((facts ≤ 64) × ((count ≤ 256) × ((length table ≡ 256) × (FactsBelow facts start × (LiteralsBelow facts goal
-    × (NoOpposites goal × (NeedsBelow facts count table × (MakesBelow facts count table × (NeedsAgree count table
-    × (MakesAgree count table × Unit {0}))))))))))
-
-pub fits : (p : Problem) → WellFormed p → (facts count : ℕ) (table : List Step) (start : FactSet) (goal : LiteralSet)
-    → facts ≡ p.facts → count ≡ steps p → length table ≡ 256 → take count table ≡ p.rows → start ≡ p.start → goal ≡ p.goal
-    → Fits facts count table start goal
-fits p wf facts count table start goal ef ec el er es eg =
-    let w : WellFormed (record { facts = facts; rows = take count table; start = start; goal = goal })
-    = subst WellFormed (sym (same_problem ef er es eg)) wf in (
-      w.some_fact,
-      (
-        w.few_facts,
-        (
-          omega (arith, wf.few_steps),
-          (
-            el,
-            (
-              w.start_in_range,
-              (
-                w.goal_in_range,
-                (
-                  w.goal_agrees,
-                  (w.needs_in_range, (w.makes_in_range, (w.needs_agree, (w.makes_agree, tt)))),
-                ),
-              ),
-            ),
-          ),
-        ),
-      ),
-    )
+-- what has the parts of a problem within the limits is within them
+pub fits : (p : Problem) → WellFormed p → {facts : ℕ} {rows : List Step} {start : FactSet} {goal : LiteralSet}
+    → facts ≡ p.facts → rows ≡ p.rows → start ≡ p.start → goal ≡ p.goal
+    → WellFormed (record { facts = facts; rows = rows; start = start; goal = goal })
+fits p limits ef er es eg = subst WellFormed (sym (same_problem ef er es eg)) limits
 
 pub no_fact : (f : ℕ) → fact_in no_facts f ≡ false
 unfolding fact_in

@@ -1,31 +1,22 @@
-use Rattle.std.proofs.Common.{◌≡◌, ℕ, take, sym, subst}
-use Rattle.model.proofs.Fitting.{fits, same_problem}
+use Rattle.std.proofs.Common.{arith}
+use Rattle.model.proofs.Fitting.{fits}
 use Rattle.model.proofs.table.ProblemTable.of.Goals as goal
 
 pub invariant_of-result : goal.invariant_of-result
 invariant_of-result g c =
     let p = g.S.ProblemSource.meaning c.args.source.now in
-    let w = fits p (g.met.S.ProblemSource.limits c.args.source.now) c.facts.result c.steps.result c.copy_steps.new.table
-    c.start.result c.goal.result c.facts.ensures c.steps.ensures c.copy_steps.array_long
-    (subst (λ (n : ℕ). take n c.copy_steps.new.table ≡ p.rows) (sym c.steps.ensures) c.copy_steps.ensures)
-    c.start.ensures c.goal.ensures in
+    let limits = g.met.S.ProblemSource.limits c.args.source.now in
+    let w = fits p limits c.facts.ensures (rw c.steps.ensures c.copy_steps.ensures) c.start.ensures c.goal.ensures in
     record {
-      some = w.0;
-      few_facts = w.1.0;
-      few_steps = w.1.1.0;
-      sized = w.1.1.1.0;
-      start_in = w.1.1.1.1.0;
-      goal_in = w.1.1.1.1.1.0;
-      goal_agrees = w.1.1.1.1.1.1.0;
-      needs_in = w.1.1.1.1.1.1.1.0;
-      makes_in = w.1.1.1.1.1.1.1.1.0;
-      needs_agree = w.1.1.1.1.1.1.1.1.1.0;
-      makes_agree = w.1.1.1.1.1.1.1.1.1.1.0;
+      some = w.some_fact;
+      few_facts = w.few_facts;
+      few_steps = omega (arith, limits.few_steps, c.steps.ensures);
+      sized = c.copy_steps.array_long;
+      start_in = w.start_in_range;
+      goal_in = w.goal_in_range;
+      goal_agrees = w.goal_agrees;
+      needs_in = w.needs_in_range;
+      makes_in = w.makes_in_range;
+      needs_agree = w.needs_agree;
+      makes_agree = w.makes_agree;
     }
-
-pub returns : goal.returns
-returns g c =
-    let p = g.S.ProblemSource.meaning c.args.source.now in
-    same_problem c.facts.ensures
-    (subst (λ (n : ℕ). take n c.copy_steps.new.table ≡ p.rows) (sym c.steps.ensures) c.copy_steps.ensures)
-    c.start.ensures c.goal.ensures
