@@ -1,41 +1,18 @@
 -- What a state holds after literals are put in, and after one time of a plan.
-use Rattle.std.proofs.Common.{◌≡◌, ℕ, zero, suc, ◌<◌, Bool, true, false, not, ◌&&◌, ◌||◌, ◌⊎◌, sym, refl, subst, inl, inr, ⊎_elim, arith}
+use Rattle.std.proofs.Common.{◌≡◌, ℕ, zero, suc, ◌<◌, Bool, true, false, not, ◌⊎◌, sym, refl, ap, subst, inl, inr, ⊎_elim, arith}
 use Rattle.std.proofs.lemmas.Bool.{both_ways, or_cases, or_left, or_right, and_from, and_parts, cases_Bool, cases_eq}
-use Rattle.sets.specs.Literals.{Literal, pos, neg, opposite, fact}
+pub use Rattle.sets.proofs.Literals.{opposite_opposite, fact_opposite}
+use Rattle.sets.specs.Literals.{Literal, pos, neg, opposite}
 use Rattle.model.specs.Problems.{Problem, WellFormed, steps, State, Holds, Makes}
 use Rattle.model.specs.Plans.{Cells, Taken, some_below, put, made_at, state, IsPlan}
 
-pub opposite_opposite : (l : Literal) → opposite (opposite l) ≡ l
-opposite_opposite (pos f) = refl
-opposite_opposite (neg f) = refl
-
-pub fact_opposite : (l : Literal) → fact (opposite l) ≡ fact l
-fact_opposite (pos f) = refl
-fact_opposite (neg f) = refl
-
 pub never_both : (s : State) (l : Literal) → Holds s l → Holds s (opposite l) → ⊥
-never_both s (pos f) = go (s f)
-  where
-    go : (b : Bool) → b ≡ true → not b ≡ true → ⊥
-    go true h k = both_ways false refl k
-    go false h k = both_ways false refl h
-never_both s (neg f) = go (s f)
-  where
-    go : (b : Bool) → not b ≡ true → b ≡ true → ⊥
-    go true h k = both_ways false refl h
-    go false h k = both_ways false refl k
+never_both s (pos f) h k = grind arith
+never_both s (neg f) h k = grind arith
 
 pub one_of : (s : State) (l : Literal) → Holds s l ⊎ Holds s (opposite l)
-one_of s (pos f) = go (s f)
-  where
-    go : (b : Bool) → (b ≡ true) ⊎ (not b ≡ true)
-    go true = inl refl
-    go false = inr refl
-one_of s (neg f) = go (s f)
-  where
-    go : (b : Bool) → (not b ≡ true) ⊎ (b ≡ true)
-    go true = inr refl
-    go false = inl refl
+one_of s (pos f) = ⊎_elim (λ h. inl h) (λ h. inr (ap not h)) (cases_Bool (s f))
+one_of s (neg f) = ⊎_elim (λ h. inr h) (λ h. inl (ap not h)) (cases_Bool (s f))
 
 -- a search over the numbers below n
 pub found_below : (n : ℕ) (test : ℕ → Bool) → some_below n test ≡ true → (o : ℕ) × (o < n) × (test o ≡ true)
@@ -52,45 +29,15 @@ some_below_from (suc n) test o l h = ⊎_elim (λ e. or_left (test n) _ (subst (
 -- a state with literals put in
 pub put_makes : (s : State) (made : Literal → Bool) (l : Literal) → made l ≡ true → made (opposite l) ≡ false → Holds (put s made) l
 put_makes s made (pos f) h k = or_left (made (pos f)) _ h
-put_makes s made (neg f) h k = go (made (pos f)) (made (neg f)) (s f) h k
-  where
-    go : (a b x : Bool) → b ≡ true → a ≡ false → not (a || (x && not b)) ≡ true
-    go true b x h k = absurd (both_ways true k refl)
-    go false false x h k = absurd (both_ways false refl h)
-    go false true true h k = refl
-    go false true false h k = refl
+put_makes s made (neg f) h k = grind arith
 
 pub put_keeps : (s : State) (made : Literal → Bool) (l : Literal) → Holds s l → made (opposite l) ≡ false → Holds (put s made) l
-put_keeps s made (pos f) h k = go (made (pos f)) (made (neg f)) (s f) h k
-  where
-    go : (a b x : Bool) → x ≡ true → b ≡ false → (a || (x && not b)) ≡ true
-    go true b x h k = refl
-    go false true x h k = absurd (both_ways true k refl)
-    go false false true h k = refl
-    go false false false h k = h
-put_keeps s made (neg f) h k = go (made (pos f)) (made (neg f)) (s f) h k
-  where
-    go : (a b x : Bool) → not x ≡ true → a ≡ false → not (a || (x && not b)) ≡ true
-    go true b x h k = absurd (both_ways true k refl)
-    go false b true h k = absurd (both_ways false refl h)
-    go false b false h k = refl
+put_keeps s made (pos f) h k = grind arith
+put_keeps s made (neg f) h k = grind arith
 
 pub put_from : (s : State) (made : Literal → Bool) (l : Literal) → Holds (put s made) l → (made l ≡ true) ⊎ (Holds s l × (made (opposite l) ≡ false))
-put_from s made (pos f) h = go (made (pos f)) (made (neg f)) (s f) h
-  where
-    go : (a b x : Bool) → (a || (x && not b)) ≡ true → (a ≡ true) ⊎ ((x ≡ true) × (b ≡ false))
-    go true b x h = inl refl
-    go false true true h = inl h
-    go false true false h = inl h
-    go false false true h = inr (refl, refl)
-    go false false false h = inl h
-put_from s made (neg f) h = go (made (pos f)) (made (neg f)) (s f) h
-  where
-    go : (a b x : Bool) → not (a || (x && not b)) ≡ true → (b ≡ true) ⊎ ((not x ≡ true) × (a ≡ false))
-    go true b x h = absurd (both_ways false refl h)
-    go false true x h = inl refl
-    go false false true h = absurd (both_ways false refl h)
-    go false false false h = inr (refl, refl)
+put_from s made (pos f) h = grind arith
+put_from s made (neg f) h = grind arith
 
 -- one time of cells within their bounds
 module _ (p : Problem) (T : ℕ) (c : Cells) (within : (t o : ℕ) → Taken c t o → (t < T) × (o < steps p)) where
