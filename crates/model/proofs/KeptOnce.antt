@@ -1,5 +1,5 @@
 -- That a path is kept has one proof at most, so it comes out of a truncation again.
-use Rattle.std.proofs.Common.{◌≡◌, ℕ, List, [], ◌∷◌, refl, arith}
+use Rattle.std.proofs.Common.{ℕ, List, [], ◌∷◌, refl, arith}
 use native.Mathlib.Bridge.{le_prop}
 use mathlib.Core.Logic.{∥∥₁_elim}
 use mathlib.Core.HLevel.{Π_prop, ¬_prop, ×_prop, Unit-prop, ⊥_prop, Discrete, hedberg}
@@ -14,13 +14,13 @@ use Rattle.model.specs.Kept.{Kept}
 
 pub pin_discrete : Discrete Pin
 pin_discrete unpinned unpinned = yes refl
-pin_discrete unpinned take = no (λ e. let z : ◌≡◌ {A = ℕ} 0 1 = cc in omega arith)
-pin_discrete unpinned leave = no (λ e. let z : ◌≡◌ {A = ℕ} 0 1 = cc in omega arith)
-pin_discrete take unpinned = no (λ e. let z : ◌≡◌ {A = ℕ} 0 1 = cc in omega arith)
+pin_discrete unpinned take = no (λ e. grind arith)
+pin_discrete unpinned leave = no (λ e. grind arith)
+pin_discrete take unpinned = no (λ e. grind arith)
 pin_discrete take take = yes refl
-pin_discrete take leave = no (λ e. let z : ◌≡◌ {A = ℕ} 0 1 = cc in omega arith)
-pin_discrete leave unpinned = no (λ e. let z : ◌≡◌ {A = ℕ} 0 1 = cc in omega arith)
-pin_discrete leave take = no (λ e. let z : ◌≡◌ {A = ℕ} 0 1 = cc in omega arith)
+pin_discrete take leave = no (λ e. grind arith)
+pin_discrete leave unpinned = no (λ e. grind arith)
+pin_discrete leave take = no (λ e. grind arith)
 pin_discrete leave leave = yes refl
 
 pub absent_prop : (x : Cell) (path : List Entry) → IsProp (Absent x path)
