@@ -1,7 +1,7 @@
 -- How what the writer adds joins, and what its two runs give.
-use Rattle.std.proofs.Common.{◌≡◌, ℕ, ◌+◌, ◌/◌, ◌%◌, ◌^◌, ◌<◌, ◌≤◌, ◌-◌, List, [], ◌∷◌, ◌++◌, length, get_or, take, drop, decimal, sym, refl, ap, ◌∙◌, subst, append_assoc, arith}
+use Rattle.std.proofs.Common.{◌≡◌, ℕ, ◌+◌, ◌/◌, ◌%◌, ◌^◌, ◌<◌, ◌≤◌, ◌-◌, List, [], ◌∷◌, ◌++◌, length, take, drop, decimal, sym, refl, ap, ◌∙◌, subst, append_assoc, arith}
 use Rattle.std.proofs.lemmas.Fmt.{decimal_digit, decimal_step}
-use Rattle.std.proofs.lemmas.List.{append-nil, drop_at, take_at, take_more}
+use Rattle.std.proofs.lemmas.List.{drop_at, take_at}
 use Rattle.std.proofs.Math.Nat.{min-eq_left, min-le_left}
 use Rattle.text.specs.declared.write.Writer.{Writer}
 use Rattle.text.specs.Written.{Wrote, Stands, TooFew}
@@ -14,17 +14,9 @@ writes_more {a} {b} f g = record {
   adds = λ base text w. rw (sym (append_assoc text a b)) (g.adds base (text ++ a) (f.adds base text w));
 }
 
-pub writes_none : {w : Writer} → Writes [] w w
-writes_none = record { same_bytes = refl; adds = λ base text w. rw append-nil w }
-
 -- the same text in another form
 pub writes_same : {a b : List ℕ} {u v : Writer} → b ≡ a → Writes a u v → Writes b u v
 writes_same {a} {b} {u} {v} e f = subst (λ (t : List ℕ). Writes t u v) (sym e) f
-
--- the next byte of a text
-pub bytes_more : (text : List ℕ) (i : ℕ) {u v w : Writer} → i < length text
-    → Writes (take i text) u v → Writes (get_or text i 0 ∷ []) v w → Writes (take (i + 1) text) u w
-bytes_more text i within f g = writes_same (take_more text i 0 within) (writes_more f g)
 
 -- a number of one digit, and one of more
 pub digit : (n : ℕ) {u v w : Writer} → n < 10 → v ≡ u → Writes ((48 + n % 10) ∷ []) v w → Writes (decimal n) u w
