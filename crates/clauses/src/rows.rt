@@ -15,10 +15,10 @@ use sets::facts::{FactSet, LiteralSet};
 
 impl Pairs {
     // The rows.
-    pub(crate) fn table(&self) -> [LiteralSet; 128]
-        ensures { (a b : Literal) → lit_in (slice_index_or result (code a) no_literals) b ≡ rel self.now a b }
+    pub(crate) fn table(&self) -> &[LiteralSet; 128]
+        ensures { (a b : Literal) → lit_in (slice_index_or result.now (code a) no_literals) b ≡ rel self.now a b }
     {
-        self.rows
+        &self.rows
     }
 
     // No pairs.
@@ -135,10 +135,10 @@ fn first_row(all: LiteralSet, first: LiteralSet, a: usize) -> LiteralSet
     ensures { (x : Literal) → lit_in result x ≡ (if lit_in first (lit a) then lit_in all x else (if lit_in all (lit a) then lit_in first x else false)) }
 {
     if first.contains(a) {
-        return all;
+        all
+    } else if all.contains(a) {
+        first
+    } else {
+        LiteralSet::empty()
     }
-    if all.contains(a) {
-        return first;
-    }
-    LiteralSet::empty()
 }
