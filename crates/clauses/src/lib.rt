@@ -3,7 +3,9 @@
 
 pub mod asking;
 mod making;
+mod noting;
 pub mod pairs;
 pub mod record;
 mod rows;
 mod striking;
+pub mod waiting;

@@ -4,29 +4,14 @@ ghost use Rattle.sets.specs.Sets.{lit_in};
 ghost use Rattle.sets.specs.Literals.{Literal, lit, code};
 ghost use Rattle.model.specs.Held.{problem_of};
 ghost use Rattle.clauses.specs.Striking.{Spoilt, Settled};
-ghost use Rattle.clauses.specs.Waiting.{Held, Noted, Struck, kept_in};
+ghost use Rattle.clauses.specs.Waiting.{Struck, kept_in};
 
 use crate::record::ClauseRecord;
 use model::source::ProblemSource;
 use model::table::ProblemTable;
 use sets::facts::LiteralSet;
-use sets::stack::Stack;
 
 impl ClauseRecord {
-    // The pair awaits a look; where there is no room, every step does.
-    fn note(&mut self, a: usize, b: usize)
-        requires { (a < 128) × (b < 128) }
-        ensures noted { Noted self.old self.new }
-        ensures held { self.new.again ≡ false → Held self.new a b }
-    {
-        let mut waiting = Stack::resume(&mut self.wait, self.wait_len);
-        let ok = waiting.push((a as u8, b as u8));
-        self.wait_len = waiting.len();
-        if !ok {
-            self.again = true;
-        }
-    }
-
     // Strikes the pair, if it still stands.
     fn strike(&mut self, a: usize, b: usize)
         requires { (a < 128) × (b < 128) }
@@ -37,7 +22,7 @@ impl ClauseRecord {
             return;
         }
         self.pairs.strike(a, b);
-        self.note(a, b);
+        self.waiting.note(a, b);
     }
 
     // Strikes a's pairs with all of `gone`.

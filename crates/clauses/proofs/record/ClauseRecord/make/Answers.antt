@@ -1,4 +1,4 @@
-use Rattle.std.proofs.Common.{true, refl, ◌∙◌}
+use Rattle.std.proofs.Common.{◌∙◌}
 use Rattle.std.proofs.lemmas.Bool.{both_ways}
 use Rattle.clauses.proofs.record.ClauseRecord.make.Goals as goal
 
@@ -7,5 +7,5 @@ returns c =
     let e = c.settle.ensures in
     record {
       facts = e.facts ∙ c.facts-self.ensures;
-      largest = e.largest (record { good = c.fill.ensures; awaits = λ o l q n. absurd (both_ways true q refl) });
+      largest = e.largest (record { good = c.fill.ensures; awaits = λ o l q n. absurd (both_ways _ q c.begin.ensures.1) });
     }

@@ -17,5 +17,5 @@ returns c =
     record {
       facts = e.facts ∙ c.loop.invariant.0;
       largest = λ k. let k' = e.ready (c.loop.invariant.1 k) in
-          largest p (kept_in t) k'.good (settled_all p (kept_in t) (λ o l. k'.awaits o l done.1 (λ x y h look. none_held t done.0 x y h)));
+          largest p (kept_in t) k'.good (settled_all p (kept_in t) (λ o l. k'.awaits o l done.1 (λ x y h look. none_held t.waiting done.0 x y h)));
     }
