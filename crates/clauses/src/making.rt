@@ -74,7 +74,7 @@ impl ClauseRecord {
         ensures largest { Largest (problem_of problem.now) (kept_in self.new) }
     {
         self.facts = problem.facts();
-        self.pairs.fill(problem);
+        self.pairs = Pairs::at_start(problem);
         self.waiting.begin();
         self.settle(problem);
     }

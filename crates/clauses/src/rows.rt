@@ -1,9 +1,8 @@
 // Reading and changing a table of pairs.
-ghost use Rattle.std.specs.Prelude.{◌≡◌, ◌<◌, ◌≤◌, true, false, not, ◌&&◌, ◌||◌, if◌then◌else◌, ◌==◌, nat_eq, nat_lt, slice_index_or};
+ghost use Rattle.std.specs.Prelude.{◌≡◌, ◌<◌, ◌≤◌, true, false, not, ◌&&◌, ◌||◌, if◌then◌else◌, ◌==◌, nat_lt, slice_index_or};
 ghost use Rattle.sets.specs.Sets.{lit_in, no_literals};
 ghost use Rattle.sets.specs.Literals.{Literal, fact, lit, code};
 ghost use Rattle.model.specs.Held.{problem_of};
-ghost use Rattle.model.specs.Problems.{start_state, value};
 ghost use Rattle.model.specs.Clauses.{Clause};
 ghost use Rattle.clauses.specs.Pairs.{rel, load, Linked};
 ghost use Rattle.clauses.specs.Striking.{Good};
@@ -12,6 +11,7 @@ use crate::pairs::Pairs;
 use model::source::ProblemSource;
 use model::table::ProblemTable;
 use sets::facts::{FactSet, LiteralSet};
+use std::array;
 
 impl Pairs {
     // The rows.
@@ -95,22 +95,14 @@ impl Pairs {
         all
     }
 
-    fn put_row(&mut self, a: usize, row: LiteralSet)
-        requires { a < 128 }
-        ensures { (k x : Literal) → rel self.new k x ≡ (if nat_eq (code k) a then lit_in row x else rel self.old k x) }
-    {
-        self.rows[a] = row;
-    }
-
     // Every pair of the problem's literals of which one holds at the start.
-    pub(crate) fn fill(&mut self, problem: &ProblemTable)
-        ensures { Good (problem_of problem.now) (rel self.new) }
+    pub(crate) fn at_start(problem: &ProblemTable) -> Pairs
+        ensures { Good (problem_of problem.now) (rel result) }
     {
         let all = every_literal(problem);
-        let first = first_literals(problem);
-        for a in 0..128 {
-            let row = first_row(all, first, a);
-            self.put_row(a, row);
+        let first = problem.start_literals();
+        Pairs {
+            rows: array::from_fn(|a| first_row(all, first, a)),
         }
     }
 }
@@ -120,15 +112,6 @@ fn every_literal(problem: &ProblemTable) -> LiteralSet
 {
     let all = FactSet::below(problem.facts());
     LiteralSet::new(all, all)
-}
-
-// The problem's literals that hold at the start.
-fn first_literals(problem: &ProblemTable) -> LiteralSet
-    ensures { (l : Literal) → lit_in result l ≡ (nat_lt (fact l) (problem_of problem.now).facts && value (start_state (problem_of problem.now)) l) }
-{
-    let all = FactSet::below(problem.facts());
-    let falsities = all.minus(problem.start());
-    LiteralSet::new(all.minus(falsities), falsities)
 }
 
 fn first_row(all: LiteralSet, first: LiteralSet, a: usize) -> LiteralSet

@@ -7,5 +7,5 @@ returns c =
     let e = c.settle.ensures in
     record {
       facts = e.facts ∙ c.facts-self.ensures;
-      largest = e.largest (record { good = c.fill.ensures; awaits = λ o l q n. absurd (both_ways _ q c.begin.ensures.1) });
+      largest = e.largest (record { good = c.at_start-self.ensures; awaits = λ o l q n. absurd (both_ways _ q c.begin.ensures.1) });
     }
