@@ -4,6 +4,7 @@
 pub mod asking;
 mod making;
 mod noting;
+pub mod number;
 pub mod pairs;
 pub mod record;
 mod rows;

@@ -1,8 +1,9 @@
 // Noting struck pairs, and taking them up.
-ghost use Rattle.std.specs.Prelude.{◌≡◌, ◌+◌, ◌<◌, true, false, [], ◌∷◌, ◌++◌, MatchBool, MatchOption};
+ghost use Rattle.std.specs.Prelude.{◌≡◌, ◌+◌, true, false, [], ◌∷◌, ◌++◌, MatchBool, MatchOption};
 ghost use Rattle.model.specs.Held.{problem_of};
 ghost use Rattle.clauses.specs.Waiting.{Held, Noted, Gathered, Due, Idle, waiting};
 
+use crate::number::LiteralNumber;
 use crate::waiting::{Touched, Waiting};
 use model::source::ProblemSource;
 use model::table::ProblemTable;
@@ -29,13 +30,12 @@ impl Waiting {
     }
 
     // The pair awaits a look; where there is no room, every step does.
-    pub(crate) fn note(&mut self, a: usize, b: usize)
-        requires { (a < 128) × (b < 128) }
+    pub(crate) fn note(&mut self, a: LiteralNumber, b: LiteralNumber)
         ensures noted { Noted self.old self.new }
-        ensures held { self.new.all ≡ false → Held self.new a b }
+        ensures held { self.new.all ≡ false → Held self.new a.number b.number }
     {
         let mut waiting = Stack::resume(&mut self.pairs, self.len);
-        let ok = waiting.push((a as u8, b as u8));
+        let ok = waiting.push((a.number, b.number));
         self.len = waiting.len();
         self.all |= !ok;
     }

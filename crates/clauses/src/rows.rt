@@ -7,6 +7,7 @@ ghost use Rattle.model.specs.Clauses.{Clause};
 ghost use Rattle.clauses.specs.Pairs.{rel, load, Linked};
 ghost use Rattle.clauses.specs.Striking.{Good};
 
+use crate::number::LiteralNumber;
 use crate::pairs::Pairs;
 use model::source::ProblemSource;
 use model::table::ProblemTable;
@@ -47,22 +48,21 @@ impl Pairs {
         self.row(a).contains(b)
     }
 
-    fn strike_one(&mut self, a: usize, b: usize)
-        requires { a < 128 }
-        ensures pairs { (k l : Literal) → rel self.new k l ≡ (rel self.old k l && not (code k == a && code l == b)) }
+    fn strike_one(&mut self, a: LiteralNumber, b: LiteralNumber)
+        ensures pairs { (k l : Literal) → rel self.new k l ≡ (rel self.old k l && not (code k == a.number && code l == b.number)) }
         ensures less { load self.new ≤ load self.old }
-        ensures falls { rel self.old (lit a) (lit b) ≡ true → load self.new < load self.old }
+        ensures falls { rel self.old (lit a.number) (lit b.number) ≡ true → load self.new < load self.old }
     {
-        self.rows[a] = self.rows[a].remove(b);
+        let row = a.number as usize;
+        self.rows[row] = self.rows[row].remove(b.number as usize);
     }
 
     // Strikes the pair, in both orders.
-    pub(crate) fn strike(&mut self, a: usize, b: usize)
-        requires { (a < 128) × (b < 128) }
+    pub(crate) fn strike(&mut self, a: LiteralNumber, b: LiteralNumber)
         ensures pairs { (k l : Literal) → rel self.new k l
-            ≡ (rel self.old k l && not ((code k == a && code l == b) || (code k == b && code l == a))) }
+            ≡ (rel self.old k l && not ((code k == a.number && code l == b.number) || (code k == b.number && code l == a.number))) }
         ensures less { load self.new ≤ load self.old }
-        ensures falls { rel self.old (lit a) (lit b) ≡ true → load self.new < load self.old }
+        ensures falls { rel self.old (lit a.number) (lit b.number) ≡ true → load self.new < load self.old }
     {
         self.strike_one(a, b);
         self.strike_one(b, a);

@@ -7,8 +7,8 @@ use Rattle.clauses.proofs.record.ClauseRecord.strike.Goals as goal
 pub returns : goal.returns
 returns c =
     let r = c.args.self.now in
-    let a = c.args.a in
-    let b = c.args.b in
+    let a = c.args.a.number in
+    let b = c.args.b.number in
     let m = c.strike.new.self in
     let e = c.strike.ensures in
     let n = c.note.ensures in

@@ -10,10 +10,10 @@ returns c =
     let r = c.resume-waiting.ensures in
     let e = c.push-ok.ensures in
     let resumed : c.resume-waiting.result.len ≡ w.len = r.len ∙ resumes w in
-    let more : c.push-ok.result ≡ true → take c.len-self.result c.push-ok.new.self.table.now ≡ waiting w ++ (c.args.a, c.args.b) ∷ [] = λ yes.
+    let more : c.push-ok.result ≡ true → take c.len-self.result c.push-ok.new.self.table.now ≡ waiting w ++ (c.args.a.number, c.args.b.number) ∷ [] = λ yes.
     ap (λ (k : ℕ). take k c.push-ok.new.self.table.now) c.len-self.ensures ∙ e.held yes
-    ∙ ap₂ (λ (k : ℕ) (ys : List (ℕ × ℕ)). take k ys ++ (c.args.a, c.args.b) ∷ []) resumed r.table in
+    ∙ ap₂ (λ (k : ℕ) (ys : List (ℕ × ℕ)). take k ys ++ (c.args.a.number, c.args.b.number) ∷ []) resumed r.table in
     let same : c.push-ok.result ≡ false → take c.len-self.result c.push-ok.new.self.table.now ≡ waiting w = λ no.
     ap₂ take (c.len-self.ensures ∙ e.len ∙ cond-false _ _ _ no ∙ resumed) (e.table ∙ cond-false _ _ _ no ∙ r.table) in
-    let both = noted_push w _ c.args.a c.args.b c.push-ok.result more same refl in
+    let both = noted_push w _ c.args.a.number c.args.b.number c.push-ok.result more same refl in
     record { noted = both.0; held = both.1 }
