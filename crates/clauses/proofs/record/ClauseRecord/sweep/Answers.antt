@@ -18,5 +18,5 @@ loop-o-preserved c =
           (visited_here p r s t c.loop-o.o (Due p c.loop-o.o c.args.touched) inv.0 e.moved e.here),
     )
 
-pub returns : goal.returns
-returns c = let inv = c.loop-o.invariant in record { moved = inv.0; here = λ o l. inv.1 o (omega (arith, c.steps-o-end.ensures)) }
+pub returns-clause-here : goal.returns-clause-here
+returns-clause-here c o l = c.loop-o.invariant.1 o (omega (arith, c.steps-o-end.ensures))

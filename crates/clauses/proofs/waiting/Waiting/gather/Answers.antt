@@ -1,10 +1,7 @@
-use Rattle.std.proofs.Common.{refl, inl, ⊎_elim}
+use Rattle.std.proofs.Common.{refl, ⊎_elim}
 use Rattle.std.proofs.lemmas.Bool.{or_parts, eqb-false}
 use Rattle.clauses.proofs.Waits.{caught_more, insert_has, insert_keeps, none_held}
 use Rattle.clauses.proofs.waiting.Waiting.gather.Goals as goal
-
-pub loop-a-init : goal.loop-a-init
-loop-a-init c = (λ q. q, λ x y h q. inl h)
 
 pub loop-a-preserved : goal.loop-a-preserved
 loop-a-preserved c =
