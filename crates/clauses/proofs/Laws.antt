@@ -1,7 +1,8 @@
 -- The laws of a table of pairs.
-use Rattle.std.proofs.Common.{◌≡◌, ℕ, zero, suc, ◌+◌, ◌/◌, ◌%◌, ◌<◌, ◌≤◌, Bool, true, false, cond, not, ◌&&◌, ◌||◌, eqb, ltb, ◌⊎◌, List, [], ◌∷◌, length, get_or, set, replicate, sym, refl, ap, ◌∙◌, subst, ap₂, inl, inr, ⊎_elim, arith, get_or-set_other, get_or-set_same}
-use Rattle.std.proofs.lemmas.Bool.{cases_eq, cases_lt, eq-eqb, ne_eqb, both_ways, or_right, and_from, and_left, lt-ltb, ltb-true, cond-true}
+use Rattle.std.proofs.Common.{◌≡◌, ℕ, zero, suc, ◌+◌, ◌/◌, ◌%◌, ◌<◌, ◌≤◌, Bool, true, false, cond, not, ◌&&◌, ◌||◌, eqb, ltb, ◌⊎◌, List, length, get_or, set, replicate, sym, refl, ap, ◌∙◌, subst, ap₂, inl, inr, ⊎_elim, arith, get_or-set_other, get_or-set_same}
+use Rattle.std.proofs.lemmas.Bool.{cases_eq, cases_lt, eq-eqb, ne_eqb, both_ways, lt-ltb, ltb-true, cond-true}
 use Rattle.std.proofs.lemmas.Bool.Decides.{nat_tests}
+use Rattle.std.proofs.lemmas.List.{get_or_past}
 use Rattle.sets.specs.Literals.{Literal, pos, neg, fact, code, lit}
 use Rattle.model.specs.Problems.{Problem, StartLiterals, value, start_state}
 use Rattle.clauses.specs.Striking.{Good}
@@ -21,11 +22,6 @@ unfolding lit_in fact_in
 no_literal_in (pos f) = has_zero f
 no_literal_in (neg f) = has_zero f
 
-past_is_default : (xs : List LiteralSet) (k : ℕ) → length xs ≤ k → get_or xs k no_literals ≡ no_literals
-past_is_default [] k h = refl
-past_is_default (x ∷ xs) zero h = absurd (omega arith)
-past_is_default (x ∷ xs) (suc k) h = past_is_default xs k (omega arith)
-
 beyond_is_none : (n k : ℕ) (x : LiteralSet) → x ≡ no_literals → get_or (replicate n x) k no_literals ≡ no_literals
 beyond_is_none zero k x e = refl
 beyond_is_none (suc n) zero x e = e
@@ -42,14 +38,14 @@ rel_narrow m k l h = go (cases_lt (code k) 128)
     go : (code k < 128) ⊎ (128 ≤ code k) → code k < 128
     go (inl lt) = lt
     go (inr ge) =
-        let e = past_is_default m.rows (code k) (omega (arith, m.sized)) in
+        let e = get_or_past m.rows (code k) no_literals (omega (arith, m.sized)) in
         absurd (both_ways (lit_in (get_or m.rows (code k) no_literals) l) (ap (λ (s : LiteralSet). lit_in s l) e ∙ no_literal_in l) h)
 
 -- past the end of the table there are no pairs
 pub row_past : (m : Pairs) (a : ℕ) → 128 ≤ a → (l : Literal) → rel m (lit a) l ≡ false
 unfolding rel
 row_past m a h l =
-    let e = past_is_default m.rows (code (lit a)) (omega (arith, m.sized, code_lit a)) in ap (λ (s : LiteralSet). lit_in s l) e ∙ no_literal_in l
+    let e = get_or_past m.rows (code (lit a)) no_literals (omega (arith, m.sized, code_lit a)) in ap (λ (s : LiteralSet). lit_in s l) e ∙ no_literal_in l
 
 -- one literal left out of one row
 pub struck_row : (xs : List LiteralSet) (a b : ℕ) (s : LiteralSet) → a < length xs
@@ -95,24 +91,10 @@ walk_end s from gap x m = go (cases_lt (code x) from)
 
 -- a set built one literal at a time from those that pass
 pub single_yes : (r v v' : Bool) (c a : ℕ) → v ≡ (r && ltb c a) → v' ≡ (v || eqb c a) → (c ≡ a → r ≡ true) → v' ≡ (r && ltb c (a + 1))
-single_yes r v v' c a e f h = go (cases_eq c a) r v v' e f h
-  where
-    go : (c ≡ a) ⊎ (c ≡ a → ⊥) → (r v v' : Bool) → v ≡ (r && ltb c a) → v' ≡ (v || eqb c a) → (c ≡ a → r ≡ true) → v' ≡ (r && ltb c (a + 1))
-    go (inl q) r v v' e f h = f ∙ or_right v (eqb c a) (eq-eqb c a q) ∙ sym (and_from r (ltb c (a + 1)) (h q) (lt-ltb c (a + 1) (omega arith)))
-    go (inr n) r v v' e f h =
-        let same : ltb c a ≡ ltb c (a + 1) = grind (arith, nat_tests) in
-        f ∙ ap (λ (x : Bool). v || x) (ne_eqb c a n) ∙ or_false v ∙ e ∙ ap (λ (x : Bool). r && x) same
-      where
-        or_false : (x : Bool) → (x || false) ≡ x
-        or_false true = refl
-        or_false false = refl
+single_yes r v v' c a e f h = grind (arith, nat_tests)
 
 pub single_no : (r v : Bool) (c a : ℕ) → v ≡ (r && ltb c a) → (c ≡ a → r ≡ false) → v ≡ (r && ltb c (a + 1))
-single_no r v c a e h = go (cases_eq c a) r v e h
-  where
-    go : (c ≡ a) ⊎ (c ≡ a → ⊥) → (r v : Bool) → v ≡ (r && ltb c a) → (c ≡ a → r ≡ false) → v ≡ (r && ltb c (a + 1))
-    go (inl q) r v e h = e ∙ and_left r (ltb c a) (h q) ∙ sym (and_left r (ltb c (a + 1)) (h q))
-    go (inr n) r v e h = let same : ltb c a ≡ ltb c (a + 1) = grind (arith, nat_tests) in e ∙ ap (λ (x : Bool). r && x) same
+single_no r v c a e h = grind (arith, nat_tests)
 
 -- a pair with itself, at a number
 pub self_at : (m : Pairs) (x : Literal) (a : ℕ) (t : Bool) → t ≡ rel m (lit a) (lit a) → code x ≡ a → rel m x x ≡ t
