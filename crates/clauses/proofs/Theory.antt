@@ -1,7 +1,8 @@
 -- Striking spoilt pairs until none is left gives the largest kept set. Assumes nothing.
-use Rattle.std.proofs.Common.{◌≡◌, ℕ, ◌<◌, true, false, ◌⊎◌, sym, refl, ap, subst, inl, inr, ⊎_elim}
+use Rattle.std.proofs.Common.{◌≡◌, ℕ, ◌<◌, true, false, ◌⊎◌, sym, refl, ap, subst, inl, inr, ⊎_elim, arith}
 use Rattle.std.proofs.lemmas.Bool.{cases_Bool, cases_lt, both_ways}
 use Rattle.std.proofs.lemmas.List.{get_or_past}
+use Rattle.std.proofs.lemmas.Bool.Decides.{nat_tests}
 use Rattle.sets.specs.Literals.{Literal, opposite}
 use Rattle.sets.proofs.Literals.{opposite_opposite}
 use Rattle.model.specs.declared.step.Step.{Step}
@@ -59,11 +60,7 @@ largest p W g s = record {
 -- ---- what was settled stays so until a pair that the step looks at is struck
 
 pub stays_out : (W₀ W : Clauses) (G : Literal → Literal → Type 0) → Cut W₀ W G → (a b : Literal) → W₀ a b ≡ false → W a b ≡ false
-stays_out W₀ W G c a b h = go (cases_Bool (W a b))
-  where
-    go : (W a b ≡ true) ⊎ (W a b ≡ false) → W a b ≡ false
-    go (inl e) = absurd (both_ways (W₀ a b) h (c.within a b e))
-    go (inr e) = e
+stays_out W₀ W G c a b h = let w = c.within a b in grind (arith, nat_tests)
 
 module _ (p : Problem) (o : ℕ) (W₀ W : Clauses) (none : (a b : Literal) → Clause W₀ a b → W a b ≡ false → Looks p o a b → ⊥) where
   need_twice : (a : Literal) → Needs p o a → Needs p o (opposite (opposite a))

@@ -1,6 +1,7 @@
 -- What awaits another look, and why nothing is missed. Assumes nothing.
-use Rattle.std.proofs.Common.{◌≡◌, ℕ, ◌+◌, ◌*◌, ◌<◌, ◌≤◌, min, Bool, true, false, not, ◌&&◌, ◌||◌, eqb, ltb, ◌⊎◌, List, [], ◌∷◌, ◌++◌, length, take, sym, refl, ap, ◌∙◌, subst, inl, inr, ⊎_elim, arith}
-use Rattle.std.proofs.lemmas.Bool.{cases_Bool, both_ways, or_parts, not-false, or_left, or_right, and_from, lt-ltb, eq-eqb}
+use Rattle.std.proofs.Common.{◌≡◌, ℕ, ◌<◌, ◌≤◌, min, Bool, true, false, not, ◌&&◌, ◌||◌, eqb, ltb, ◌⊎◌, List, [], ◌∷◌, ◌++◌, length, take, sym, refl, ap, ◌∙◌, subst, inl, inr, ⊎_elim, arith}
+use Rattle.std.proofs.lemmas.Bool.{cases_Bool, both_ways, or_parts, not-false, or_left}
+use Rattle.std.proofs.lemmas.Bool.Decides.{nat_tests}
 use Rattle.sets.specs.Literals.{Literal, pos, neg, opposite, fact, lit, code}
 use Rattle.sets.specs.Sets.{lit_in}
 use Rattle.sets.specs.declared.facts.LiteralSet.{LiteralSet}
@@ -65,17 +66,7 @@ size_fell r r' h = omega (arith, r'.waiting.fits, one_if_small r'.waiting.all)
 -- whatever awaited is taken up, and something did
 pub size_idle : (r r' : ClauseRecord) → r'.pairs ≡ r.pairs → Idle r'.waiting → (Idle r.waiting → ⊥) → size r' < size r
 unfolding size
-size_idle r r' e idle busy = go r.waiting.all refl
-  where
-    go : (b : Bool) → r.waiting.all ≡ b → load r'.pairs * 8258 + r'.waiting.len + one_if r'.waiting.all < load r.pairs * 8258 + r.waiting.len + one_if r.waiting.all
-    go true q =
-        let w : load r'.pairs ≡ load r.pairs = ap load e in
-        let q' : one_if r'.waiting.all ≡ 0 = ap one_if idle.1 in
-        let u : one_if r.waiting.all ≡ 1 = ap one_if q in omega (arith, idle.0)
-    go false q =
-        let w : load r'.pairs ≡ load r.pairs = ap load e in
-        let q' : one_if r'.waiting.all ≡ 0 = ap one_if idle.1 in
-        let n : r.waiting.len ≡ 0 → ⊥ = λ z. busy (z, q) in omega (arith, idle.0)
+size_idle r r' e idle busy = grind (arith, idle.0, idle.1)
 
 -- ---- notes
 
@@ -198,8 +189,7 @@ caught_more s t a b touched more w grows ha hb n x y (inl h) = ⊎_elim inl
 -- a literal's opposite put in by its number
 pub insert_has : (s s' : LiteralSet) (n a : ℕ) → ((l : Literal) → lit_in s' l ≡ (lit_in s l || (ltb n 128 && eqb (code l) n)))
     → n < 128 → lit n ≡ opposite (lit a) → lit_in s' (opposite (lit a)) ≡ true
-insert_has s s' n a is small e = is (opposite (lit a)) ∙ or_right (lit_in s (opposite (lit a))) _
-    (and_from _ _ (lt-ltb n 128 small) (eq-eqb (code (opposite (lit a))) n (ap code (sym e) ∙ code_lit n)))
+insert_has s s' n a is small e = let q = is (opposite (lit a)) in let w : code (opposite (lit a)) ≡ n = ap code (sym e) ∙ code_lit n in grind (arith, nat_tests)
 
 pub insert_keeps : (s s' : LiteralSet) (n : ℕ) → ((l : Literal) → lit_in s' l ≡ (lit_in s l || (ltb n 128 && eqb (code l) n)))
     → (l : Literal) → lit_in s l ≡ true → lit_in s' l ≡ true
