@@ -33,8 +33,7 @@ fn index_of(problem: &ProblemTable, clauses: &ClauseRecord) -> Index
     ensures { Means result (problem_of problem.now) (kept_in clauses.now) }
 {
     let mut index = Index::empty();
-    let rows = clauses.rows();
-    index.build(problem, &rows);
+    index.build(problem, clauses.rows());
     index
 }
 

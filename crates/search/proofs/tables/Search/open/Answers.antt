@@ -15,7 +15,7 @@ invariant_of-self g c =
       order_sized = s.order_sized;
       levels_sized = s.levels_sized;
       sound = begins t (kept_in c.make.new.self) c.build.new.self 0 s.order (pins_of c.none-self.result) c.work_out-self.result c.work_out-self.new.marks s.levels
-          c.make.ensures.largest (means_kept c.build.new.self (problem_of t) c.rows-rows.result (kept_in c.make.new.self) c.rows-rows.ensures c.build.ensures)
+          c.make.ensures.largest (means_kept c.build.new.self (problem_of t) c.rows-rows.result.now (kept_in c.make.new.self) c.rows-rows.ensures c.build.ensures)
           (ordered_none (steps (problem_of t)) s.order) (range_none (pins_of c.none-self.result) 0 (steps (problem_of t)) c.none-self.ensures)
           c.work_out-self.ensures.begun c.work_out-self.ensures.cells;
     }
