@@ -86,15 +86,18 @@ finished s rest last n j (Ok u) small begun f z m = record {
   same = f.same ∙ ap (print_all f.lines) (nil_from_length rest z);
   ends = m;
 }
-finished s rest last n j (Err e) small begun f z m = inr (small, inr (record {
-  short = record {
-    lines = f.lines;
-    last = last;
-    job = j;
-    run = f.run;
-    same = f.same ∙ ap (print_all f.lines) (nil_from_length rest z);
-    ends = m.0;
-    fault = subst (λ (k : ℕ). e ≡ sheet_is.NoFact (record { line = k; byte = 1 })) f.count m.1;
-  };
-  some = omega (arith, f.count);
-}))
+finished s rest last n j (Err e) small begun f z m = inr (
+  small,
+  inr (record {
+    short = record {
+      lines = f.lines;
+      last = last;
+      job = j;
+      run = f.run;
+      same = f.same ∙ ap (print_all f.lines) (nil_from_length rest z);
+      ends = m.0;
+      fault = subst (λ (k : ℕ). e ≡ sheet_is.NoFact (record { line = k; byte = 1 })) f.count m.1;
+    };
+    some = omega (arith, f.count);
+  }),
+)

@@ -132,17 +132,17 @@ module _ (p : SheetProblem) (some : 0 < p.count) (put : LiteralSet → JobStep �
   pub newest_told : (d x : StepRecord) (f : ℕ) (b : Bool) (name : List ℕ) (w : Place) (r : Result (Unit {0}) SheetFault) (n : LiteralSet) → Names (stated p) name f
       → Joins (got (job_step (slice_index_or p.steps (p.count - 1) d))) f b w r n → job_step x ≡ put n (job_step (slice_index_or p.steps (p.count - 1) d))
       → MatchResult r
-          (λ _. (i : ℕ) × Names (stated p) name i × (mentions (got (newest (stated p))) i ≡ false) ×
-              (with_steps (stated p) (take p.count (map job_step (slice_set p.steps (p.count - 1) x))) ≡ amending (put (with_literal (got (newest (stated p))) (literal b i)) (newest (stated p))) (stated p)))
-          (λ e. (Unknown (stated p).facts name × (e ≡ sheet_is.UnknownFact w)) ⊎ ((i : ℕ) × Names (stated p) name i × (mentions (got (newest (stated p))) i ≡ true) × (e ≡ sheet_is.Repeated w)))
+      (λ _. (i : ℕ) × Names (stated p) name i × (mentions (got (newest (stated p))) i ≡ false) ×
+      (with_steps (stated p) (take p.count (map job_step (slice_set p.steps (p.count - 1) x))) ≡ amending (put (with_literal (got (newest (stated p))) (literal b i)) (newest (stated p))) (stated p)))
+      (λ e. (Unknown (stated p).facts name × (e ≡ sheet_is.UnknownFact w)) ⊎ ((i : ℕ) × Names (stated p) name i × (mentions (got (newest (stated p))) i ≡ true) × (e ≡ sheet_is.Repeated w)))
   newest_told d x f b name w (Ok u) n at h e = (
     f,
     at,
     subst (λ (s : JobStep). mentions (got s) f ≡ false) (sym (newest_row d)) h.free,
     ap (with_steps (stated p)) (newest_set x
-    ∙ ap (slice_set (stated p).steps (length (stated p).steps - 1)) (e
-    ∙ ap (λ (m : LiteralSet). put m (job_step (slice_index_or p.steps (p.count - 1) d))) h.more.value
-    ∙ ap (λ (s : JobStep). put (with_literal (got s) (literal b f)) s) (sym (newest_row d)))),
+        ∙ ap (slice_set (stated p).steps (length (stated p).steps - 1)) (e
+        ∙ ap (λ (m : LiteralSet). put m (job_step (slice_index_or p.steps (p.count - 1) d))) h.more.value
+        ∙ ap (λ (s : JobStep). put (with_literal (got s) (literal b f)) s) (sym (newest_row d)))),
   )
   newest_told d x f b name w (Err e) n at h q = inr (f, at, subst (λ (s : JobStep). mentions (got s) f ≡ true) (sym (newest_row d)) h.0, h.1)
 

@@ -1,5 +1,5 @@
 // What each line adds to a sheet problem.
-ghost use Rattle.std.specs.Prelude.{◌≡◌, ◌<◌, ◌≤◌, false, length, MatchResult};
+ghost use Rattle.std.specs.Prelude.{◌≡◌, ◌<◌, false, MatchResult};
 ghost use Rattle.sets.specs.Sets.{lit_in, no_literals};
 ghost use Rattle.sets.specs.Literals.{Literal};
 ghost use Rattle.sheet.specs.Name.{name_bytes};
@@ -14,6 +14,7 @@ use crate::entry::{append, check_new, first_match};
 use crate::fault::{Place, SheetFault};
 use crate::line::SignedName;
 use crate::name::Name;
+use crate::name::plain::PlainName;
 use crate::problem::SheetProblem;
 use crate::record::{FactRecord, StepRecord};
 use crate::signed::SignedFact;
@@ -64,11 +65,11 @@ impl SheetProblem {
 
     // The fact with this name, and the sign before the name.
     fn signed_fact(&self, signed: SignedName, field: Place) -> Result<SignedFact, SheetFault>
-        ensures { MatchResult result (λ x. Stands (stated self.now).facts signed.entry.name.now x.fact × (x.negative ≡ signed.entry.negative) × (x.field ≡ field))
-            (λ e. Unknown (stated self.now).facts signed.entry.name.now × (e ≡ SheetFault.UnknownFact field)) }
+        ensures { MatchResult result (λ x. Stands (stated self.now).facts signed.entry.name.bytes.now x.fact × (x.negative ≡ signed.entry.negative) × (x.field ≡ field))
+            (λ e. Unknown (stated self.now).facts signed.entry.name.bytes.now × (e ≡ SheetFault.UnknownFact field)) }
     {
         let SignedName { negative, name } = signed;
-        let fact = self.fact(name, field)?;
+        let fact = self.fact(name.bytes, field)?;
         Ok(SignedFact {
             fact,
             negative,
@@ -76,24 +77,23 @@ impl SheetProblem {
         })
     }
 
-    pub(crate) fn add_fact(&mut self, name: &[u8], field: Place) -> Result<(), SheetFault>
-        requires { length name.now ≤ 15 }
-        ensures { MatchResult result (λ _. Adds (stated self.old) (fact_line name.now) (stated self.new))
-            (λ e. Flawed (stated self.old) (fact_line name.now) field e) }
+    pub(crate) fn add_fact(&mut self, name: PlainName, field: Place) -> Result<(), SheetFault>
+        ensures { MatchResult result (λ _. Adds (stated self.old) (fact_line name.entry.bytes.now) (stated self.new))
+            (λ e. Flawed (stated self.old) (fact_line name.entry.bytes.now) field e) }
     {
-        check_new(&self.facts[..self.named], name, field)?;
+        check_new(&self.facts[..self.named], name.bytes, field)?;
         let fact = FactRecord {
-            name: Name::new(name),
+            name: Name::from(name),
         };
         self.named = append(&mut self.facts, self.named, fact, field)?;
         Ok(())
     }
 
-    pub(crate) fn add_true(&mut self, name: &[u8], field: Place) -> Result<(), SheetFault>
-        ensures { MatchResult result (λ _. Adds (stated self.old) (holds name.now) (stated self.new))
-            (λ e. Flawed (stated self.old) (holds name.now) field e) }
+    pub(crate) fn add_true(&mut self, name: PlainName, field: Place) -> Result<(), SheetFault>
+        ensures { MatchResult result (λ _. Adds (stated self.old) (holds name.entry.bytes.now) (stated self.new))
+            (λ e. Flawed (stated self.old) (holds name.entry.bytes.now) field e) }
     {
-        let fact = self.fact(name, field)?;
+        let fact = self.fact(name.bytes, field)?;
         if self.start.contains(fact) {
             return Err(SheetFault::Repeated(field));
         }
@@ -102,28 +102,27 @@ impl SheetProblem {
     }
 
     pub(crate) fn add_wanted(&mut self, signed: SignedName, field: Place) -> Result<(), SheetFault>
-        ensures { MatchResult result (λ _. Adds (stated self.old) (wanted signed.entry.negative signed.entry.name.now) (stated self.new))
-            (λ e. Flawed (stated self.old) (wanted signed.entry.negative signed.entry.name.now) field e) }
+        ensures { MatchResult result (λ _. Adds (stated self.old) (wanted signed.entry.negative signed.entry.name.bytes.now) (stated self.new))
+            (λ e. Flawed (stated self.old) (wanted signed.entry.negative signed.entry.name.bytes.now) field e) }
     {
         let fact = self.signed_fact(signed, field)?;
         fact.join(&mut self.goal)
     }
 
-    pub(crate) fn add_step(&mut self, name: &[u8], field: Place) -> Result<(), SheetFault>
-        requires { length name.now ≤ 15 }
-        ensures { MatchResult result (λ _. Adds (stated self.old) (step_line name.now) (stated self.new))
-            (λ e. Flawed (stated self.old) (step_line name.now) field e) }
+    pub(crate) fn add_step(&mut self, name: PlainName, field: Place) -> Result<(), SheetFault>
+        ensures { MatchResult result (λ _. Adds (stated self.old) (step_line name.entry.bytes.now) (stated self.new))
+            (λ e. Flawed (stated self.old) (step_line name.entry.bytes.now) field e) }
     {
-        check_new(&self.steps[..self.count], name, field)?;
-        let step = StepRecord::new(Name::new(name));
+        check_new(&self.steps[..self.count], name.bytes, field)?;
+        let step = StepRecord::new(Name::from(name));
         self.count = append(&mut self.steps, self.count, step, field)?;
         Ok(())
     }
 
     pub(crate) fn add_need(&mut self, signed: SignedName, field: Place) -> Result<(), SheetFault>
         requires { 0 < self.old.count }
-        ensures { MatchResult result (λ _. Adds (stated self.old) (need signed.entry.negative signed.entry.name.now) (stated self.new))
-            (λ e. Flawed (stated self.old) (need signed.entry.negative signed.entry.name.now) field e) }
+        ensures { MatchResult result (λ _. Adds (stated self.old) (need signed.entry.negative signed.entry.name.bytes.now) (stated self.new))
+            (λ e. Flawed (stated self.old) (need signed.entry.negative signed.entry.name.bytes.now) field e) }
     {
         let fact = self.signed_fact(signed, field)?;
         let newest = self.count - 1;
@@ -134,8 +133,8 @@ impl SheetProblem {
 
     pub(crate) fn add_make(&mut self, signed: SignedName, field: Place) -> Result<(), SheetFault>
         requires { 0 < self.old.count }
-        ensures { MatchResult result (λ _. Adds (stated self.old) (make signed.entry.negative signed.entry.name.now) (stated self.new))
-            (λ e. Flawed (stated self.old) (make signed.entry.negative signed.entry.name.now) field e) }
+        ensures { MatchResult result (λ _. Adds (stated self.old) (make signed.entry.negative signed.entry.name.bytes.now) (stated self.new))
+            (λ e. Flawed (stated self.old) (make signed.entry.negative signed.entry.name.bytes.now) field e) }
     {
         let fact = self.signed_fact(signed, field)?;
         let newest = self.count - 1;

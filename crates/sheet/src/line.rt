@@ -4,18 +4,19 @@ ghost use Rattle.sheet.specs.declared.kind.LineKind.{LineKind};
 ghost use Rattle.sheet.specs.Print.{IsName};
 ghost use Rattle.sheet.specs.Statement.{Statement, Prints, InField, headed, meant, signed, kind_stated};
 
-use crate::field::{is_name, number};
+use crate::field::number;
 use crate::kind::LineKind;
+use crate::name::plain::PlainName;
 
 // What a line states. The names are parts of the sheet.
 #[derive(Clone, Copy)]
 pub enum Line<'a> {
     Version(u16),
     Length(u16),
-    Fact(&'a [u8]),
-    True(&'a [u8]),
+    Fact(PlainName<'a>),
+    True(PlainName<'a>),
     Wanted(SignedName<'a>),
-    Step(&'a [u8]),
+    Step(PlainName<'a>),
     Need(SignedName<'a>),
     Make(SignedName<'a>),
 }
@@ -24,23 +25,20 @@ pub enum Line<'a> {
 #[derive(Clone, Copy)]
 pub struct SignedName<'a> {
     pub negative: bool,
-    pub name: &'a [u8],
-}
-
-fn plain_name<'a>(field: &'a [u8]) -> Option<&'a [u8]>
-    ensures { MatchOption result (IsName field.now → ⊥) (λ x. IsName x.now × (x.now ≡ field.now)) }
-{
-    is_name(field).then_some(field)
+    pub name: PlainName<'a>,
 }
 
 fn signed_name<'a>(field: &'a [u8]) -> Option<SignedName<'a>>
-    ensures { MatchOption result ((s : List ℕ) → (b : Bool) → IsName s → field.now ≢ signed b s) (λ x. IsName x.name.now × (field.now ≡ signed x.negative x.name.now)) }
+    ensures { MatchOption result ((s : List ℕ) → (b : Bool) → IsName s → field.now ≢ signed b s) (λ x. IsName x.name.bytes.now × (field.now ≡ signed x.negative x.name.bytes.now)) }
 {
     let (negative, name) = match field {
         [b'-', rest @ ..] => (true, rest),
         _ => (false, field),
     };
-    is_name(name).then_some(SignedName { negative, name })
+    Some(SignedName {
+        negative,
+        name: PlainName::new(name)?,
+    })
 }
 
 // The kind of a line, and its field.
@@ -61,10 +59,10 @@ fn parse_field<'a>(kind: LineKind, field: &'a [u8]) -> Option<Line<'a>>
     match kind {
         LineKind::Version => Some(Line::Version(number(field)?)),
         LineKind::Length => Some(Line::Length(number(field)?)),
-        LineKind::Fact => Some(Line::Fact(plain_name(field)?)),
-        LineKind::True => Some(Line::True(plain_name(field)?)),
+        LineKind::Fact => Some(Line::Fact(PlainName::new(field)?)),
+        LineKind::True => Some(Line::True(PlainName::new(field)?)),
         LineKind::Wanted => Some(Line::Wanted(signed_name(field)?)),
-        LineKind::Step => Some(Line::Step(plain_name(field)?)),
+        LineKind::Step => Some(Line::Step(PlainName::new(field)?)),
         LineKind::Need => Some(Line::Need(signed_name(field)?)),
         LineKind::Make => Some(Line::Make(signed_name(field)?)),
     }

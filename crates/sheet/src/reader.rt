@@ -4,7 +4,7 @@ ghost use Rattle.sheet.specs.Exact.{OneReading, Faulted, Exact};
 ghost use Rattle.sheet.specs.Job.{Adds, Flawed, field, no_job};
 ghost use Rattle.sheet.specs.Kind.{allowed, in_step, after_step};
 ghost use Rattle.sheet.specs.Sheet.{Next, Wrong, Reads, Refused};
-ghost use Rattle.sheet.specs.Statement.{Statement, Proper, meant, kind_stated};
+ghost use Rattle.sheet.specs.Statement.{Statement, meant, kind_stated};
 ghost use Rattle.sheet.specs.Stated.{stated as job};
 
 use crate::cut::Reader;
@@ -15,8 +15,7 @@ use crate::problem::SheetProblem;
 
 // Adds what a line states, or says why it may not stand.
 fn add_line(problem: &mut SheetProblem, stated: Line, line: u32) -> Result<(), SheetFault>
-    requires proper { Proper (meant stated) }
-    requires begun { in_step (kind_stated (meant stated)) ≡ true → 0 < problem.old.count }
+    requires { in_step (kind_stated (meant stated)) ≡ true → 0 < problem.old.count }
     ensures { MatchResult result (λ _. Adds (job problem.old) (meant stated.entry) (job problem.new))
         (λ e. Flawed (job problem.old) (meant stated.entry) (record { line = line; byte = field (meant stated.entry) }) e) }
 {

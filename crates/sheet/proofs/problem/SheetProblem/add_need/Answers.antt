@@ -15,7 +15,7 @@ invariant_of-self-clause-needs_in c =
     let p = c.args.self.now in
     let f = c.in_ok-fact.fact in
     at_rows (λ (s : JobStep). LiteralsBelow p.named s.needs) p.steps (p.count - 1) _
-    (joins_below p.named _ _ f.fact f.negative f.field c.join.result c.join.ensures (named_below p c.args.signed.name.now f.fact c.in_ok-fact.ensures.0)
+    (joins_below p.named _ _ f.fact f.negative f.field c.join.result c.join.ensures (named_below p c.args.signed.name.bytes.now f.fact c.in_ok-fact.ensures.0)
     (at_row (λ (s : JobStep). LiteralsBelow p.named s.needs) p.steps (p.count - 1) c.index-steps-newest.result (omega (arith, c.requires, p.few_steps, p.step_room)) p.needs_in))
     p.needs_in
 
@@ -30,4 +30,4 @@ pub returns : goal.returns
 returns c =
     let f = c.in_ok-fact.fact in
     rw (← c.in_ok-fact.ensures.1, ← c.in_ok-fact.ensures.2)
-    (newest_told c.args.self.now c.requires with_needs (λ (s : JobStep). s.needs) c.index-steps-newest.result _ f.fact f.negative c.args.signed.name.now f.field c.join.result _ c.in_ok-fact.ensures.0 c.join.ensures refl)
+    (newest_told c.args.self.now c.requires with_needs (λ (s : JobStep). s.needs) c.index-steps-newest.result _ f.fact f.negative c.args.signed.name.bytes.now f.field c.join.result _ c.in_ok-fact.ensures.0 c.join.ensures refl)

@@ -12,7 +12,7 @@ invariant_of-self c =
       few_steps = p.few_steps;
       fact_room = p.fact_room;
       step_room = p.step_room;
-      start_in = starts_below p.named p.start _ f c.insert-self.ensures.members (named_below p c.args.name.now f c.in_ok-fact.ensures) p.start_in;
+      start_in = starts_below p.named p.start _ f c.insert-self.ensures.members (named_below p c.args.name.bytes.now f c.in_ok-fact.ensures) p.start_in;
       goal_in = p.goal_in;
       goal_agrees = p.goal_agrees;
       needs_in = p.needs_in;
@@ -26,5 +26,5 @@ returns c =
       f,
       c.in_ok-fact.ensures,
       sym c.contains.ensures ∙ c.if-contains.false,
-      ap (with_start (stated p)) (c.insert-self.ensures.value (below_64 p c.args.name.now f c.in_ok-fact.ensures)),
+      ap (with_start (stated p)) (c.insert-self.ensures.value (below_64 p c.args.name.bytes.now f c.in_ok-fact.ensures)),
     )
