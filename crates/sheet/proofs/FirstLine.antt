@@ -23,7 +23,7 @@ same_first s x y b c =
     (cases_order (length x) (length y))
 
 two_classes : (c : ByteClass) → c ≡ LineFeed → c ≡ Other → ⊥
-two_classes c f o = let z : ◌≡◌ {A = ℕ} 0 1 = cc in omega arith
+two_classes c f o = cc
 
 -- a line that ends has no byte fault
 whole : (s x : List ℕ) (n : ℕ) (e : ByteFault) → Begins s x → ByteWrong s n e → ⊥

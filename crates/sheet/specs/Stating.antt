@@ -3,19 +3,18 @@ use Rattle.std.specs.Prelude.{◌≡◌, ℕ, zero, suc, ◌+◌, ◌-◌, ◌<�
 use Rattle.std.proofs.Common.{sym, ap, subst, ◌∙◌, inl, inr, ⊎_elim, arith}
 use Rattle.std.specs.Option.{ok_or}
 use Rattle.std.proofs.lemmas.List.{length-map, length-take-le, take-map, map-set, take_more_set, get_or-take, get_or-map}
-use Rattle.std.proofs.lemmas.Bool.{both_ways, eqb-true}
+use Rattle.std.proofs.lemmas.Bool.{eqb-true}
 use Rattle.sets.specs.Literals.{Literal}
 use Rattle.sets.specs.Sets.{fact_in, with_literal, no_literals}
 use Rattle.sets.specs.declared.facts.FactSet.{FactSet}
 use Rattle.sets.specs.declared.facts.LiteralSet.{LiteralSet}
 use Rattle.model.specs.Tables.{FactsBelow}
 use Rattle.sheet.specs.Entry.{First, Unknown, Stands}
-use Rattle.sheet.specs.Job.{Job, JobStep, no_step, newest, Names, Adds, Flawed, amending, literal, mentions, step_names}
+use Rattle.sheet.specs.Job.{Job, JobStep, no_step, newest, Names, amending, literal, mentions, step_names}
 use Rattle.sheet.specs.Joins.{Joins}
 use Rattle.sheet.specs.Name.{name_bytes}
 use Rattle.sheet.specs.Records.{fact_name, job_step}
 use Rattle.sheet.specs.Stated.{stated}
-use Rattle.sheet.specs.Statement.{wanted}
 use Rattle.sheet.specs.declared.fault.Place.{Place}
 use Rattle.sheet.specs.declared.fault.SheetFault.{SheetFault}
 use Rattle.sheet.specs.declared.fault.SheetFault.TheVariants as sheet_is
@@ -85,29 +84,20 @@ at_rows P rows i x h old = subst (λ (js : List JobStep). (o : ℕ) → P (slice
 abbrev pub with_start : Job → FactSet → Job
 with_start j s = record { times = j.times; facts = j.facts; start = s; goal = j.goal; steps = j.steps }
 
-abbrev pub with_goal : Job → LiteralSet → Job
-with_goal j s = record { times = j.times; facts = j.facts; start = j.start; goal = s; steps = j.steps }
-
 abbrev pub with_facts : Job → List (List ℕ) → Job
 with_facts j s = record { times = j.times; facts = s; start = j.start; goal = j.goal; steps = j.steps }
 
 abbrev pub with_steps : Job → List JobStep → Job
 with_steps j s = record { times = j.times; facts = j.facts; start = j.start; goal = j.goal; steps = s }
 
-or_and : (x t q : Bool) → (x || (t && q)) ≡ true → (x ≡ true) ⊎ (q ≡ true)
+pub or_and : (x t q : Bool) → (x || (t && q)) ≡ true → (x ≡ true) ⊎ (q ≡ true)
 or_and true t q e = inl refl
 or_and false true q e = inr e
-or_and false false q e = absurd (both_ways false refl e)
+or_and false false q e = absurd cc
 
 pub starts_below : (n : ℕ) (s s' : FactSet) (f : ℕ) → ((i : ℕ) → fact_in s' i ≡ (fact_in s i || (nat_lt f 64 && i == f))) → f < n → FactsBelow n s → FactsBelow n s'
 starts_below n s s' f h l old i e =
     ⊎_elim (old i) (λ q. subst (λ (k : ℕ). k < n) (sym (eqb-true i f q)) l) (or_and (fact_in s i) (nat_lt f 64) (i == f) (sym (h i) ∙ e))
-
--- a wanted line, by what its literal did to the goal
-pub wanted_told : (j : Job) (s : LiteralSet) (f : ℕ) (b : Bool) (name : List ℕ) (w : Place) (r : Result (Unit {0}) SheetFault) → Names j name f → Joins j.goal f b w r s
-    → MatchResult r (λ _. Adds j (wanted b name) (with_goal j s)) (λ e. Flawed j (wanted b name) w e)
-wanted_told j s f b name w (Ok u) n h = (f, n, h.free, ap (with_goal j) h.more.value)
-wanted_told j s f b name w (Err e) n h = inr (f, n, h.0, h.1)
 
 take_set_in : {A : Type 0} (n i : ℕ) (l : List A) (a : A) → take n (slice_set l i a) ≡ slice_set (take n l) i a
 take_set_in zero i l a = refl

@@ -126,11 +126,13 @@ impl SheetProblem {
     {
         let fact = self.signed_fact(signed, field)?;
         let newest = self.count - 1;
+        // As a slice: an element lent straight out of the array in `self` gets no proof.
         let steps: &mut [StepRecord] = &mut self.steps;
         let step = &mut steps[newest];
         fact.join(&mut step.needs)
     }
 
+    // `add_need` on the other list: what would pick the list is longer than the two bodies.
     pub(crate) fn add_make(&mut self, signed: SignedName, field: Place) -> Result<(), SheetFault>
         requires { 0 < self.old.count }
         ensures { MatchResult result (λ _. Adds (stated self.old) (make signed.entry.negative signed.entry.name.bytes.now) (stated self.new))

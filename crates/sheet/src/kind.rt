@@ -19,7 +19,7 @@ pub enum LineKind {
 }
 
 impl LineKind {
-    // The kind that a first letter tells.
+    // The kind that a first letter tells. An Option and no `TryFrom`: there is nothing to say of a letter that tells none.
     pub fn from_letter(letter: u8) -> Option<LineKind>
         ensures { result ≡ kind_of letter }
     {
