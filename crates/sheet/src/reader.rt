@@ -44,7 +44,8 @@ fn add_line(problem: &mut SheetProblem, stated: Line, line: u32) -> Result<(), S
 }
 
 impl<'a> Reader<'a> {
-    // One line: adds what it states, and goes on to the next.
+    // One line: adds what it states, and goes on to the next. That a step has begun is said of the reader and the problem both, so
+    // no ghost field of one of them can hold it.
     fn one_line(&mut self, problem: &mut SheetProblem) -> Result<(), SheetFault>
         requires { after_step self.old.previous ≡ true → 0 < problem.old.count }
         ensures { MatchResult result (λ _. (t : Statement) × Next self.old.rest.now t self.new.rest.now × (self.new.previous ≡ Some (kind_stated t)) × (self.new.line ≡ self.old.line + 1) × (allowed self.old.previous (kind_stated t) ≡ true) × Adds (job problem.old) t (job problem.new))

@@ -1,6 +1,4 @@
-use Rattle.std.proofs.Common.{subst}
 use Rattle.std.proofs.lemmas.Bool.{both_ways}
-use Rattle.sets.specs.Sets.{lit_in}
 use Rattle.model.specs.Tables.{LiteralsBelow}
 use Rattle.sheet.specs.Empty.{none_in}
 use Rattle.sheet.specs.Job.{JobStep}
