@@ -1,5 +1,5 @@
 -- Bytes have at most one first line, it states at most one thing, and it has a fault only where it states nothing.
-use Rattle.std.proofs.Common.{◌≡◌, ℕ, ◌+◌, List, ◌∷◌, ◌++◌, length, get_or, take, sym, ap, ◌∙◌, subst, ⊎_elim, arith}
+use Rattle.std.proofs.Common.{◌≡◌, ℕ, ◌+◌, List, ◌∷◌, ◌++◌, length, get_or, take, sym, ap, ◌∙◌, subst, ⊎_elim}
 use Rattle.std.proofs.lemmas.List.{append_cancel_left}
 use Rattle.std.proofs.lemmas.Bool.{cases_order}
 use Rattle.sheet.specs.Class.{class_told}
@@ -23,7 +23,7 @@ same_first s x y b c =
     (cases_order (length x) (length y))
 
 two_classes : (c : ByteClass) → c ≡ LineFeed → c ≡ Other → ⊥
-two_classes c f o = let z : ◌≡◌ {A = ℕ} 0 1 = cc in omega arith
+two_classes c f o = cc
 
 -- a line that ends has no byte fault
 whole : (s x : List ℕ) (n : ℕ) (e : ByteFault) → Begins s x → ByteWrong s n e → ⊥

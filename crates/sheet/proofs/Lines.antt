@@ -9,7 +9,7 @@ use Rattle.sheet.specs.Job.{Job, no_job, Adds}
 use Rattle.sheet.specs.Statement.{Statement, Prints, print, Proper, kind_stated}
 use Rattle.sheet.specs.Cut.{Begins}
 use Rattle.sheet.specs.Sheet.{print_all, Run, stop, go, Next, Wrong, Reads, Broken}
-use Rattle.sheet.specs.Exact.{Stopped}
+use Rattle.sheet.specs.Exact.{Faulted}
 use Rattle.sheet.specs.declared.class.ByteClass.TheVariants.{LineFeed}
 use Rattle.sheet.specs.declared.kind.LineKind.{LineKind}
 use Rattle.sheet.specs.declared.fault.SheetFault.{SheetFault}
@@ -40,23 +40,22 @@ pub record Sofar (s : List ℕ) (rest : List ℕ) (last : Option LineKind) (n : 
   pub run : Run None no_job lines last job
   pub same : s ≡ print_all lines rest
   pub count : n ≡ length lines + 1
-  pub room : n + length rest ≤ 65536
 
 pub shorter : (s : List ℕ) (t : Statement) (after : List ℕ) → Next s t after → length after < length s
 shorter s t after n = omega (arith, ap length n.whole, length-append (print t) (10 ∷ after))
 
-pub at_first : (s : List ℕ) → length s ≤ 65535 → Sofar s s None 1 no_job
-at_first s h = record { lines = []; run = stop; same = refl; count = refl; room = omega arith }
+pub at_first : (s r : List ℕ) (p : Option LineKind) (n : ℕ) (j : Job) → r ≡ s → n ≡ 1 → p ≡ None → j ≡ no_job → Sofar s r p n j
+at_first s r p n j a b d e = subst (λ (i : Job). Sofar s r p n i) (sym e) (subst (λ (q : Option LineKind). Sofar s r q n no_job) (sym d)
+    (record { lines = []; run = stop; same = sym a; count = b }))
 
-pub one_more : (s rest after : List ℕ) (last : Option LineKind) (n : ℕ) (j k : Job) (t : Statement) → Sofar s rest last n j → Next rest t after → allowed last (kind_stated t) ≡ true → Adds j t k
-    → Sofar s after (Some (kind_stated t)) (n + 1) k
-one_more s rest after last n j k t f x a d = record {
+pub one_more : (s rest after : List ℕ) (last next : Option LineKind) (n m : ℕ) (j k : Job) (t : Statement) → Sofar s rest last n j → Next rest t after → next ≡ Some (kind_stated t) → m ≡ n + 1
+    → allowed last (kind_stated t) ≡ true → Adds j t k → Sofar s after next m k
+one_more s rest after last next n m j k t f x e q a d = subst (λ (p : Option LineKind). Sofar s after p m k) (sym e) (record {
   lines = f.lines ++ t ∷ [];
   run = more_run t f.run x.proper a d;
   same = f.same ∙ ap (print_all f.lines) x.whole ∙ sym (print_all_more f.lines t after);
   count = omega (arith, f.count, length_push f.lines t);
-  room = omega (arith, f.room, shorter rest t after x);
-}
+})
 
 pub broken : (s rest : List ℕ) (last : Option LineKind) (n : ℕ) (j : Job) (e : SheetFault) → Sofar s rest last n j → (0 < length rest) ⊎ (n ≡ 1) → Wrong rest last j n e → Broken s e
 broken s rest last n j e f u w = record {
@@ -78,7 +77,7 @@ none_left s e = grind (arith, nat_tests)
 
 pub finished : (s rest : List ℕ) (last : Option LineKind) (n : ℕ) (j : Job) (r : Result (Unit {0}) SheetFault) → length s ≤ 65535 → 1 < n → Sofar s rest last n j → length rest ≡ 0
     → MatchResult r (λ _. may_end last ≡ true) (λ e. (may_end last ≡ false) × (e ≡ sheet_is.NoFact (record { line = n; byte = 1 })))
-    → MatchResult r (λ _. Reads s j) (λ e. Broken s e ⊎ Stopped s e)
+    → MatchResult r (λ _. Reads s j) (λ e. Faulted s e)
 finished s rest last n j (Ok u) small begun f z m = record {
   small = small;
   lines = f.lines;
@@ -87,15 +86,18 @@ finished s rest last n j (Ok u) small begun f z m = record {
   same = f.same ∙ ap (print_all f.lines) (nil_from_length rest z);
   ends = m;
 }
-finished s rest last n j (Err e) small begun f z m = inr (record {
-  short = record {
-    lines = f.lines;
-    last = last;
-    job = j;
-    run = f.run;
-    same = f.same ∙ ap (print_all f.lines) (nil_from_length rest z);
-    ends = m.0;
-    fault = subst (λ (k : ℕ). e ≡ sheet_is.NoFact (record { line = k; byte = 1 })) f.count m.1;
-  };
-  some = omega (arith, f.count);
-})
+finished s rest last n j (Err e) small begun f z m = inr (
+  small,
+  inr (record {
+    short = record {
+      lines = f.lines;
+      last = last;
+      job = j;
+      run = f.run;
+      same = f.same ∙ ap (print_all f.lines) (nil_from_length rest z);
+      ends = m.0;
+      fault = subst (λ (k : ℕ). e ≡ sheet_is.NoFact (record { line = k; byte = 1 })) f.count m.1;
+    };
+    some = omega (arith, f.count);
+  }),
+)

@@ -137,7 +137,7 @@ exact s (Ok u) job a = record {
 }
   where
     ok_or_err : {e : SheetFault} → Ok u ≡ Err e → ⊥
-    ok_or_err h = let z : ◌≡◌ {A = ℕ} 0 1 = cc in omega arith
+    ok_or_err h = cc
 exact s (Err f) job a = record {
   sheet = λ k b. absurd (never_both s k f b (refused_if s f a.0));
   fault = λ e b. ap Err (one_fault s f e a.0 b);

@@ -1,82 +1,24 @@
 // What each line adds to a sheet problem.
-ghost use Rattle.std.specs.Prelude.{◌≡◌, ℕ, ◌-◌, ◌<◌, ◌≤◌, true, false, List, [], map, length, MatchResult};
+ghost use Rattle.std.specs.Prelude.{◌≡◌, ◌<◌, false, MatchResult};
 ghost use Rattle.sets.specs.Sets.{lit_in, no_literals};
 ghost use Rattle.sets.specs.Literals.{Literal};
 ghost use Rattle.sheet.specs.Name.{name_bytes};
-ghost use Rattle.sheet.specs.Entry.{First, Unknown, Stands};
-ghost use Rattle.sheet.specs.Job.{Adds, Flawed, mentions, literal, step_names, no_job};
-ghost use Rattle.sheet.specs.Joins.{With, Joins, NeedJoins, MakeJoins};
+ghost use Rattle.sheet.specs.Entry.{Unknown, Stands};
+ghost use Rattle.sheet.specs.Job.{Adds, Flawed, no_job};
 ghost use Rattle.sheet.specs.Records.{job_step};
 ghost use Rattle.sheet.specs.Statement.{fact as fact_line, holds, wanted, step as step_line, need, make};
 ghost use Rattle.sheet.specs.Stated.{stated};
 ghost use Rattle.sheet.specs.declared.fault.SheetFault.{SheetFault};
 
-use crate::entry::{append, first_match};
+use crate::entry::{append, check_new, first_match};
 use crate::fault::{Place, SheetFault};
+use crate::line::SignedName;
 use crate::name::Name;
+use crate::name::plain::PlainName;
 use crate::problem::SheetProblem;
 use crate::record::{FactRecord, StepRecord};
+use crate::signed::SignedFact;
 use sets::facts::{FactSet, LiteralSet};
-
-// Whether the fact stands in the list, with either sign.
-fn stands_in(list: LiteralSet, fact: usize) -> bool
-    requires { fact < 64 }
-    ensures { result ≡ mentions list fact }
-{
-    list.contains(2 * fact) || list.contains(2 * fact + 1)
-}
-
-fn with_sign(list: LiteralSet, fact: usize, negative: bool) -> LiteralSet
-    requires { fact < 64 }
-    ensures { With list (literal negative fact) result }
-{
-    if negative {
-        list.insert(2 * fact + 1)
-    } else {
-        list.insert(2 * fact)
-    }
-}
-
-// Adds a literal to a list, unless its fact stands there with either sign.
-fn join(list: &mut LiteralSet, fact: usize, negative: bool, field: Place) -> Result<(), SheetFault>
-    requires { fact < 64 }
-    ensures { Joins list.old fact negative field result list.new }
-{
-    if stands_in(*list, fact) {
-        return Err(SheetFault::Repeated(field));
-    }
-    *list = with_sign(*list, fact, negative);
-    Ok(())
-}
-
-// The record of the newest step is lent, and changed in place.
-fn add_need(
-    steps: &mut [StepRecord],
-    newest: usize,
-    fact: usize,
-    negative: bool,
-    field: Place,
-) -> Result<(), SheetFault>
-    requires { (fact < 64) × (newest < length steps.old) }
-    ensures { NeedJoins (map job_step steps.old) newest fact negative field result (map job_step steps.new) }
-{
-    let step = &mut steps[newest];
-    join(&mut step.needs, fact, negative, field)
-}
-
-fn add_make(
-    steps: &mut [StepRecord],
-    newest: usize,
-    fact: usize,
-    negative: bool,
-    field: Place,
-) -> Result<(), SheetFault>
-    requires { (fact < 64) × (newest < length steps.old) }
-    ensures { MakeJoins (map job_step steps.old) newest fact negative field result (map job_step steps.new) }
-{
-    let step = &mut steps[newest];
-    join(&mut step.makes, fact, negative, field)
-}
 
 impl StepRecord {
     // A step with no needs and no makes.
@@ -113,54 +55,45 @@ impl SheetProblem {
         }
     }
 
-    fn find_fact(&self, name: &[u8]) -> Option<usize>
-        ensures { First (stated self.now).facts name.now result }
-    {
-        first_match(&self.facts[0..self.named], name)
-    }
-
-    fn find_step(&self, name: &[u8]) -> Option<usize>
-        ensures { First (step_names (stated self.now)) name.now result }
-    {
-        first_match(&self.steps[0..self.count], name)
-    }
-
     // The number of the fact with this name.
     fn fact(&self, name: &[u8], field: Place) -> Result<usize, SheetFault>
         ensures { MatchResult result (λ f. Stands (stated self.now).facts name.now f)
             (λ e. Unknown (stated self.now).facts name.now × (e ≡ SheetFault.UnknownFact field)) }
     {
-        match self.find_fact(name) {
-            Some(fact) => Ok(fact),
-            None => Err(SheetFault::UnknownFact(field)),
-        }
+        first_match(&self.facts[..self.named], name).ok_or(SheetFault::UnknownFact(field))
     }
 
-    pub(crate) fn add_fact(&mut self, name: &[u8], field: Place) -> Result<(), SheetFault>
-        requires { length name.now ≤ 15 }
-        ensures { MatchResult result (λ _. Adds (stated self.old) (fact_line name.now) (stated self.new))
-            (λ e. Flawed (stated self.old) (fact_line name.now) field e) }
+    // The fact with this name, and the sign before the name.
+    fn signed_fact(&self, signed: SignedName, field: Place) -> Result<SignedFact, SheetFault>
+        ensures { MatchResult result (λ x. Stands (stated self.now).facts signed.entry.name.bytes.now x.fact × (x.negative ≡ signed.entry.negative) × (x.field ≡ field))
+            (λ e. Unknown (stated self.now).facts signed.entry.name.bytes.now × (e ≡ SheetFault.UnknownFact field)) }
     {
-        if let Some(_) = self.find_fact(name) {
-            return Err(SheetFault::Repeated(field));
-        }
+        let SignedName { negative, name } = signed;
+        let fact = self.fact(name.bytes, field)?;
+        Ok(SignedFact {
+            fact,
+            negative,
+            field,
+        })
+    }
+
+    pub(crate) fn add_fact(&mut self, name: PlainName, field: Place) -> Result<(), SheetFault>
+        ensures { MatchResult result (λ _. Adds (stated self.old) (fact_line name.entry.bytes.now) (stated self.new))
+            (λ e. Flawed (stated self.old) (fact_line name.entry.bytes.now) field e) }
+    {
+        check_new(&self.facts[..self.named], name.bytes, field)?;
         let fact = FactRecord {
-            name: Name::new(name),
+            name: Name::from(name),
         };
-        match append(&mut self.facts, self.named, fact) {
-            Some(named) => {
-                self.named = named;
-                Ok(())
-            }
-            None => Err(SheetFault::Full(field)),
-        }
+        self.named = append(&mut self.facts, self.named, fact, field)?;
+        Ok(())
     }
 
-    pub(crate) fn add_true(&mut self, name: &[u8], field: Place) -> Result<(), SheetFault>
-        ensures { MatchResult result (λ _. Adds (stated self.old) (holds name.now) (stated self.new))
-            (λ e. Flawed (stated self.old) (holds name.now) field e) }
+    pub(crate) fn add_true(&mut self, name: PlainName, field: Place) -> Result<(), SheetFault>
+        ensures { MatchResult result (λ _. Adds (stated self.old) (holds name.entry.bytes.now) (stated self.new))
+            (λ e. Flawed (stated self.old) (holds name.entry.bytes.now) field e) }
     {
-        let fact = self.fact(name, field)?;
+        let fact = self.fact(name.bytes, field)?;
         if self.start.contains(fact) {
             return Err(SheetFault::Repeated(field));
         }
@@ -168,62 +101,47 @@ impl SheetProblem {
         Ok(())
     }
 
-    pub(crate) fn add_wanted(
-        &mut self,
-        negative: bool,
-        name: &[u8],
-        field: Place,
-    ) -> Result<(), SheetFault>
-        ensures { MatchResult result (λ _. Adds (stated self.old) (wanted negative name.now) (stated self.new))
-            (λ e. Flawed (stated self.old) (wanted negative name.now) field e) }
+    pub(crate) fn add_wanted(&mut self, signed: SignedName, field: Place) -> Result<(), SheetFault>
+        ensures { MatchResult result (λ _. Adds (stated self.old) (wanted signed.entry.negative signed.entry.name.bytes.now) (stated self.new))
+            (λ e. Flawed (stated self.old) (wanted signed.entry.negative signed.entry.name.bytes.now) field e) }
     {
-        let fact = self.fact(name, field)?;
-        join(&mut self.goal, fact, negative, field)
+        let fact = self.signed_fact(signed, field)?;
+        fact.join(&mut self.goal)
     }
 
-    pub(crate) fn add_step(&mut self, name: &[u8], field: Place) -> Result<(), SheetFault>
-        requires { length name.now ≤ 15 }
-        ensures { MatchResult result (λ _. Adds (stated self.old) (step_line name.now) (stated self.new))
-            (λ e. Flawed (stated self.old) (step_line name.now) field e) }
+    pub(crate) fn add_step(&mut self, name: PlainName, field: Place) -> Result<(), SheetFault>
+        ensures { MatchResult result (λ _. Adds (stated self.old) (step_line name.entry.bytes.now) (stated self.new))
+            (λ e. Flawed (stated self.old) (step_line name.entry.bytes.now) field e) }
     {
-        if let Some(_) = self.find_step(name) {
-            return Err(SheetFault::Repeated(field));
-        }
-        let step = StepRecord::new(Name::new(name));
-        match append(&mut self.steps, self.count, step) {
-            Some(count) => {
-                self.count = count;
-                Ok(())
-            }
-            None => Err(SheetFault::Full(field)),
-        }
+        check_new(&self.steps[..self.count], name.bytes, field)?;
+        let step = StepRecord::new(Name::from(name));
+        self.count = append(&mut self.steps, self.count, step, field)?;
+        Ok(())
     }
 
-    pub(crate) fn add_need(
-        &mut self,
-        negative: bool,
-        name: &[u8],
-        field: Place,
-    ) -> Result<(), SheetFault>
+    pub(crate) fn add_need(&mut self, signed: SignedName, field: Place) -> Result<(), SheetFault>
         requires { 0 < self.old.count }
-        ensures { MatchResult result (λ _. Adds (stated self.old) (need negative name.now) (stated self.new))
-            (λ e. Flawed (stated self.old) (need negative name.now) field e) }
+        ensures { MatchResult result (λ _. Adds (stated self.old) (need signed.entry.negative signed.entry.name.bytes.now) (stated self.new))
+            (λ e. Flawed (stated self.old) (need signed.entry.negative signed.entry.name.bytes.now) field e) }
     {
-        let fact = self.fact(name, field)?;
-        add_need(&mut self.steps, self.count - 1, fact, negative, field)
+        let fact = self.signed_fact(signed, field)?;
+        let newest = self.count - 1;
+        // As a slice: an element lent straight out of the array in `self` gets no proof.
+        let steps: &mut [StepRecord] = &mut self.steps;
+        let step = &mut steps[newest];
+        fact.join(&mut step.needs)
     }
 
-    pub(crate) fn add_make(
-        &mut self,
-        negative: bool,
-        name: &[u8],
-        field: Place,
-    ) -> Result<(), SheetFault>
+    // `add_need` on the other list: what would pick the list is longer than the two bodies.
+    pub(crate) fn add_make(&mut self, signed: SignedName, field: Place) -> Result<(), SheetFault>
         requires { 0 < self.old.count }
-        ensures { MatchResult result (λ _. Adds (stated self.old) (make negative name.now) (stated self.new))
-            (λ e. Flawed (stated self.old) (make negative name.now) field e) }
+        ensures { MatchResult result (λ _. Adds (stated self.old) (make signed.entry.negative signed.entry.name.bytes.now) (stated self.new))
+            (λ e. Flawed (stated self.old) (make signed.entry.negative signed.entry.name.bytes.now) field e) }
     {
-        let fact = self.fact(name, field)?;
-        add_make(&mut self.steps, self.count - 1, fact, negative, field)
+        let fact = self.signed_fact(signed, field)?;
+        let newest = self.count - 1;
+        let steps: &mut [StepRecord] = &mut self.steps;
+        let step = &mut steps[newest];
+        fact.join(&mut step.makes)
     }
 }

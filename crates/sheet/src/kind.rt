@@ -1,11 +1,12 @@
 // The kinds of lines, and which may follow which.
 ghost use Rattle.std.specs.Prelude.{◌≡◌, true, false, Some, None, MatchResult};
-ghost use Rattle.sheet.specs.Kind.{kind_of, allowed, may_end, place};
+ghost use Rattle.sheet.specs.Kind.{kind_of, allowed, may_end};
 ghost use Rattle.sheet.specs.declared.fault.SheetFault.{SheetFault};
 
 use crate::fault::{Place, SheetFault};
 
-#[derive(Clone, Copy, PartialEq, Eq, Debug)]
+// In the order in which they may stand.
+#[derive(Clone, Copy, PartialEq, Eq, PartialOrd, Ord, Debug)]
 pub enum LineKind {
     Version,
     Length,
@@ -17,19 +18,21 @@ pub enum LineKind {
     Make,
 }
 
-// The kind that a first letter tells.
-pub fn kind_of(letter: u8) -> Option<LineKind>
-    ensures { result ≡ kind_of letter }
-{
-    match letter as char {
-        'l' => Some(LineKind::Length),
-        'f' => Some(LineKind::Fact),
-        't' => Some(LineKind::True),
-        'w' => Some(LineKind::Wanted),
-        's' => Some(LineKind::Step),
-        'n' => Some(LineKind::Need),
-        'm' => Some(LineKind::Make),
-        _ => None,
+impl LineKind {
+    // The kind that a first letter tells. An Option and no `TryFrom`: there is nothing to say of a letter that tells none.
+    pub fn from_letter(letter: u8) -> Option<LineKind>
+        ensures { result ≡ kind_of letter }
+    {
+        match letter as char {
+            'l' => Some(LineKind::Length),
+            'f' => Some(LineKind::Fact),
+            't' => Some(LineKind::True),
+            'w' => Some(LineKind::Wanted),
+            's' => Some(LineKind::Step),
+            'n' => Some(LineKind::Need),
+            'm' => Some(LineKind::Make),
+            _ => None,
+        }
     }
 }
 
@@ -46,9 +49,9 @@ pub fn check_order(
         (Some(LineKind::Version), LineKind::Length) => Ok(()),
         (Some(LineKind::Length), LineKind::Fact) => Ok(()),
         // facts, then what is true, then what is wanted, then steps
-        (Some(p), k) if 2 <= rank(p) && rank(p) <= rank(k) && rank(k) <= 5 => Ok(()),
+        (Some(p), k) if LineKind::Fact <= p && p <= k && k <= LineKind::Step => Ok(()),
         // in a step: needs, then makes, then the next step
-        (Some(p), k) if 5 <= rank(p) && (rank(k) == 5 || rank(p) <= rank(k)) => Ok(()),
+        (Some(p), k) if LineKind::Step <= p && (k == LineKind::Step || p <= k) => Ok(()),
         _ => Err(SheetFault::Order(Place { line, byte: 1 })),
     }
 }
@@ -63,20 +66,5 @@ pub fn check_end(previous: Option<LineKind>, line: u32) -> Result<(), SheetFault
             byte: 1,
         })),
         Some(_) => Ok(()),
-    }
-}
-
-fn rank(k: LineKind) -> u8
-    ensures { result ≡ place k }
-{
-    match k {
-        LineKind::Version => 0,
-        LineKind::Length => 1,
-        LineKind::Fact => 2,
-        LineKind::True => 3,
-        LineKind::Wanted => 4,
-        LineKind::Step => 5,
-        LineKind::Need => 6,
-        LineKind::Make => 7,
     }
 }

@@ -14,4 +14,5 @@ pub mod name;
 pub mod problem;
 pub mod reader;
 pub mod record;
+pub(crate) mod signed;
 pub mod source;

@@ -4,60 +4,41 @@ ghost use Rattle.sheet.specs.declared.kind.LineKind.{LineKind};
 ghost use Rattle.sheet.specs.Print.{IsName};
 ghost use Rattle.sheet.specs.Statement.{Statement, Prints, InField, headed, meant, signed, kind_stated};
 
-use crate::field::{is_name, number};
-use crate::kind::{LineKind, kind_of};
+use crate::field::number;
+use crate::kind::LineKind;
+use crate::name::plain::PlainName;
 
 // What a line states. The names are parts of the sheet.
 #[derive(Clone, Copy)]
 pub enum Line<'a> {
     Version(u16),
     Length(u16),
-    Fact(&'a [u8]),
-    True(&'a [u8]),
-    Wanted { negative: bool, name: &'a [u8] },
-    Step(&'a [u8]),
-    Need { negative: bool, name: &'a [u8] },
-    Make { negative: bool, name: &'a [u8] },
+    Fact(PlainName<'a>),
+    True(PlainName<'a>),
+    Wanted(SignedName<'a>),
+    Step(PlainName<'a>),
+    Need(SignedName<'a>),
+    Make(SignedName<'a>),
 }
 
 // A name with an optional minus before it, which means false.
 #[derive(Clone, Copy)]
 pub struct SignedName<'a> {
     pub negative: bool,
-    pub name: &'a [u8],
-}
-
-fn plain_name<'a>(field: &'a [u8]) -> Option<&'a [u8]>
-    ensures { MatchOption result (IsName field.now → ⊥) (λ x. IsName x.now × (x.now ≡ field.now)) }
-{
-    if is_name(field) { Some(field) } else { None }
+    pub name: PlainName<'a>,
 }
 
 fn signed_name<'a>(field: &'a [u8]) -> Option<SignedName<'a>>
-    ensures { MatchOption result ((s : List ℕ) → (b : Bool) → IsName s → field.now ≢ signed b s) (λ x. IsName x.name.now × (field.now ≡ signed x.negative x.name.now)) }
+    ensures { MatchOption result ((s : List ℕ) → (b : Bool) → IsName s → field.now ≢ signed b s) (λ x. IsName x.name.bytes.now × (field.now ≡ signed x.negative x.name.bytes.now)) }
 {
-    match field {
-        [b'-', rest @ ..] => {
-            if is_name(rest) {
-                Some(SignedName {
-                    negative: true,
-                    name: rest,
-                })
-            } else {
-                None
-            }
-        }
-        _ => {
-            if is_name(field) {
-                Some(SignedName {
-                    negative: false,
-                    name: field,
-                })
-            } else {
-                None
-            }
-        }
-    }
+    let (negative, name) = match field {
+        [b'-', rest @ ..] => (true, rest),
+        _ => (false, field),
+    };
+    Some(SignedName {
+        negative,
+        name: PlainName::new(name)?,
+    })
 }
 
 // The kind of a line, and its field.
@@ -66,10 +47,7 @@ fn split_line<'a>(bytes: &'a [u8]) -> Option<(LineKind, &'a [u8])>
 {
     match bytes {
         [b'M', b'X', b'P', b' ', field @ ..] => Some((LineKind::Version, field)),
-        [letter, b' ', field @ ..] => match kind_of(*letter) {
-            Some(kind) => Some((kind, field)),
-            None => None,
-        },
+        [letter, b' ', field @ ..] => Some((LineKind::from_letter(*letter)?, field)),
         _ => None,
     }
 }
@@ -81,21 +59,12 @@ fn parse_field<'a>(kind: LineKind, field: &'a [u8]) -> Option<Line<'a>>
     match kind {
         LineKind::Version => Some(Line::Version(number(field)?)),
         LineKind::Length => Some(Line::Length(number(field)?)),
-        LineKind::Fact => Some(Line::Fact(plain_name(field)?)),
-        LineKind::True => Some(Line::True(plain_name(field)?)),
-        LineKind::Wanted => {
-            let SignedName { negative, name } = signed_name(field)?;
-            Some(Line::Wanted { negative, name })
-        }
-        LineKind::Step => Some(Line::Step(plain_name(field)?)),
-        LineKind::Need => {
-            let SignedName { negative, name } = signed_name(field)?;
-            Some(Line::Need { negative, name })
-        }
-        LineKind::Make => {
-            let SignedName { negative, name } = signed_name(field)?;
-            Some(Line::Make { negative, name })
-        }
+        LineKind::Fact => Some(Line::Fact(PlainName::new(field)?)),
+        LineKind::True => Some(Line::True(PlainName::new(field)?)),
+        LineKind::Wanted => Some(Line::Wanted(signed_name(field)?)),
+        LineKind::Step => Some(Line::Step(PlainName::new(field)?)),
+        LineKind::Need => Some(Line::Need(signed_name(field)?)),
+        LineKind::Make => Some(Line::Make(signed_name(field)?)),
     }
 }
 
@@ -107,17 +76,19 @@ pub fn parse_line<'a>(bytes: &'a [u8]) -> Option<Line<'a>>
     parse_field(kind, field)
 }
 
-pub fn kind_in(l: &Line) -> LineKind
-    ensures { result ≡ kind_stated (meant l.now) }
-{
-    match l {
-        Line::Version(_) => LineKind::Version,
-        Line::Length(_) => LineKind::Length,
-        Line::Fact(_) => LineKind::Fact,
-        Line::True(_) => LineKind::True,
-        Line::Wanted { .. } => LineKind::Wanted,
-        Line::Step(_) => LineKind::Step,
-        Line::Need { .. } => LineKind::Need,
-        Line::Make { .. } => LineKind::Make,
+impl<'a> Line<'a> {
+    pub fn kind(&self) -> LineKind
+        ensures { result ≡ kind_stated (meant self.now) }
+    {
+        match self {
+            Line::Version(_) => LineKind::Version,
+            Line::Length(_) => LineKind::Length,
+            Line::Fact(_) => LineKind::Fact,
+            Line::True(_) => LineKind::True,
+            Line::Wanted(_) => LineKind::Wanted,
+            Line::Step(_) => LineKind::Step,
+            Line::Need(_) => LineKind::Need,
+            Line::Make(_) => LineKind::Make,
+        }
     }
 }

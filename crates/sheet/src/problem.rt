@@ -6,7 +6,8 @@ ghost use Rattle.sheet.specs.Records.{NeedsBelow, MakesBelow, job_step};
 use crate::record::{FactRecord, StepRecord};
 use sets::facts::{FactSet, LiteralSet};
 
-// The facts from `named` on and the steps from `count` on are not in use. With no fact named, one unnamed fact stands.
+// Fixed tables with a count beside, since there is no heap. The facts from `named` on and the steps from `count` on are not in use.
+// With no fact named, one unnamed fact stands.
 #[derive(Drop)]
 pub struct SheetProblem {
     pub(crate) times: usize,

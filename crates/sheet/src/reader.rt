@@ -1,24 +1,21 @@
 // Reads a sheet line by line, and leaves what it states or the empty problem.
-ghost use Rattle.std.specs.Prelude.{◌≡◌, ℕ, ◌+◌, ◌<◌, ◌≤◌, true, ◌⊎◌, length, MatchResult};
-ghost use Rattle.sheet.specs.Exact.{OneReading, Stopped, Faulted, Exact};
+ghost use Rattle.std.specs.Prelude.{◌≡◌, ◌+◌, ◌<◌, true, Some, MatchResult};
+ghost use Rattle.sheet.specs.Exact.{OneReading, Faulted, Exact};
 ghost use Rattle.sheet.specs.Job.{Adds, Flawed, field, no_job};
-ghost use Rattle.sheet.specs.declared.fault.ByteFault.{ByteFault};
-ghost use Rattle.sheet.specs.declared.fault.LineFault.{LineFault};
 ghost use Rattle.sheet.specs.Kind.{allowed, in_step, after_step};
-ghost use Rattle.sheet.specs.Sheet.{Next, Wrong, Reads, Broken, Refused};
-ghost use Rattle.sheet.specs.Statement.{Statement, Proper, meant, kind_stated};
+ghost use Rattle.sheet.specs.Sheet.{Next, Wrong, Reads, Refused};
+ghost use Rattle.sheet.specs.Statement.{Statement, meant, kind_stated};
 ghost use Rattle.sheet.specs.Stated.{stated as job};
 
-use crate::cut::read_line;
-use crate::fault::{ByteFault, LineFault, Place, SheetFault};
-use crate::kind::{LineKind, check_end, check_order};
-use crate::line::{Line, kind_in};
+use crate::cut::Reader;
+use crate::fault::{Place, SheetFault};
+use crate::kind::{check_end, check_order};
+use crate::line::Line;
 use crate::problem::SheetProblem;
 
 // Adds what a line states, or says why it may not stand.
 fn add_line(problem: &mut SheetProblem, stated: Line, line: u32) -> Result<(), SheetFault>
-    requires proper { Proper (meant stated) }
-    requires begun { in_step (kind_stated (meant stated)) ≡ true → 0 < problem.old.count }
+    requires { in_step (kind_stated (meant stated)) ≡ true → 0 < problem.old.count }
     ensures { MatchResult result (λ _. Adds (job problem.old) (meant stated.entry) (job problem.new))
         (λ e. Flawed (job problem.old) (meant stated.entry) (record { line = line; byte = field (meant stated.entry) }) e) }
 {
@@ -39,68 +36,47 @@ fn add_line(problem: &mut SheetProblem, stated: Line, line: u32) -> Result<(), S
         }
         Line::Fact(name) => problem.add_fact(name, place),
         Line::True(name) => problem.add_true(name, place),
-        Line::Wanted { negative, name } => problem.add_wanted(negative, name, place),
+        Line::Wanted(signed) => problem.add_wanted(signed, place),
         Line::Step(name) => problem.add_step(name, place),
-        Line::Need { negative, name } => problem.add_need(negative, name, place),
-        Line::Make { negative, name } => problem.add_make(negative, name, place),
+        Line::Need(signed) => problem.add_need(signed, place),
+        Line::Make(signed) => problem.add_make(signed, place),
     }
 }
 
-// One line: its kind, and what is left after it.
-fn one_line<'a>(
-    problem: &mut SheetProblem,
-    rest: &'a [u8],
-    previous: Option<LineKind>,
-    line: u32,
-) -> Result<(LineKind, &'a [u8]), SheetFault>
-    requires short { length rest.now ≤ 65535 }
-    requires begun { after_step previous ≡ true → 0 < problem.old.count }
-    ensures { MatchResult result (λ x. (t : Statement) × Next rest.now t x.1.now × (x.0 ≡ kind_stated t) × (allowed previous (kind_stated t) ≡ true) × Adds (job problem.old) t (job problem.new))
-        (λ e. Wrong rest.now previous (job problem.old) line e) }
-{
-    let (stated, after) = read_line(rest, line)?;
-    let kind = kind_in(&stated);
-    check_order(previous, kind, line)?;
-    add_line(problem, stated, line)?;
-    Ok((kind, after))
+impl<'a> Reader<'a> {
+    // One line: adds what it states, and goes on to the next. That a step has begun is said of the reader and the problem both, so
+    // no ghost field of one of them can hold it.
+    fn one_line(&mut self, problem: &mut SheetProblem) -> Result<(), SheetFault>
+        requires { after_step self.old.previous ≡ true → 0 < problem.old.count }
+        ensures { MatchResult result (λ _. (t : Statement) × Next self.old.rest.now t self.new.rest.now × (self.new.previous ≡ Some (kind_stated t)) × (self.new.line ≡ self.old.line + 1) × (allowed self.old.previous (kind_stated t) ≡ true) × Adds (job problem.old) t (job problem.new))
+            (λ e. Wrong self.old.rest.now self.old.previous (job problem.old) self.old.line e) }
+    {
+        let (stated, after) = self.read_line()?;
+        let kind = stated.kind();
+        check_order(self.previous, kind, self.line)?;
+        add_line(problem, stated, self.line)?;
+        *self = Reader {
+            rest: after,
+            line: self.line + 1,
+            previous: Some(kind),
+        };
+        Ok(())
+    }
 }
 
 // Every line of the sheet, from the first on.
 fn read_lines(problem: &mut SheetProblem, sheet: &[u8]) -> Result<(), SheetFault>
-    requires short { length sheet.now ≤ 65535 }
-    requires fresh { job problem.old ≡ no_job }
-    ensures { MatchResult result (λ _. Reads sheet.now (job problem.new)) (λ e. Broken sheet.now e ⊎ Stopped sheet.now e) }
+    requires { job problem.old ≡ no_job }
+    ensures { MatchResult result (λ _. Reads sheet.now (job problem.new)) (λ e. Faulted sheet.now e) }
 {
-    let mut rest = sheet;
-    let mut previous = None;
-    let mut line: u32 = 1;
+    let mut reader = Reader::open(sheet)?;
     loop {
-        let (kind, after) = one_line(problem, rest, previous, line)?;
-        previous = Some(kind);
-        rest = after;
-        line += 1;
-        if rest.is_empty() {
+        reader.one_line(problem)?;
+        if reader.rest.is_empty() {
             break;
         }
     }
-    check_end(previous, line)
-}
-
-// A sheet has at most 65,535 bytes.
-fn check_size(sheet: &[u8]) -> Result<(), ByteFault>
-    ensures { MatchResult result (λ _. length sheet.now ≤ 65535) (λ e. (65535 < length sheet.now) × (e ≡ ByteFault.TooLong)) }
-{
-    if sheet.len() > 65535 {
-        return Err(ByteFault::TooLong);
-    }
-    Ok(())
-}
-
-fn check_bytes(sheet: &[u8]) -> Result<(), LineFault>
-    ensures { MatchResult result (λ _. length sheet.now ≤ 65535) (λ e. (65535 < length sheet.now) × (e ≡ LineFault.Byte ByteFault.TooLong)) }
-{
-    check_size(sheet)?;
-    Ok(())
+    check_end(reader.previous, reader.line)
 }
 
 // The problem that the sheet states, or its fault and the empty problem.
@@ -108,14 +84,11 @@ fn fill(sheet: &[u8], problem: &mut SheetProblem) -> Result<(), SheetFault>
     ensures { MatchResult result (λ _. Reads sheet.now (job problem.new)) (λ e. Faulted sheet.now e × (job problem.new ≡ no_job)) }
 {
     *problem = SheetProblem::empty();
-    check_bytes(sheet)?;
-    match read_lines(problem, sheet) {
-        Ok(()) => Ok(()),
-        Err(fault) => {
-            *problem = SheetProblem::empty();
-            Err(fault)
-        }
+    let read = read_lines(problem, sheet);
+    if read.is_err() {
+        *problem = SheetProblem::empty();
     }
+    read
 }
 
 // Reads a sheet: Ok exactly where the bytes are one, and then the problem is what they state; else their one fault, and the
@@ -128,8 +101,6 @@ pub fn read(sheet: &[u8], problem: &mut SheetProblem) -> Result<(), SheetFault>
 }
 
 // The theorem that reading is a function of the bytes.
-pub fn reading_stands() -> u8
+pub fn reading_stands()
     ensures { OneReading }
-{
-    0
-}
+{}

@@ -16,7 +16,7 @@ impl ProblemSource for SheetProblem {
     ghost limits = { λ p. lawful none_in p };
 
     fn facts(&self) -> usize {
-        if self.named == 0 { 1 } else { self.named }
+        self.named.max(1)
     }
 
     fn steps(&self) -> usize {
@@ -24,15 +24,13 @@ impl ProblemSource for SheetProblem {
     }
 
     fn step(&self, number: usize) -> Step {
-        if number < self.count {
-            let row = self.steps[number];
-            Step {
+        match self.steps[..self.count].get(number) {
+            Some(row) => Step {
                 enabled: true,
                 needs: row.needs,
                 makes: row.makes,
-            }
-        } else {
-            Step::closed()
+            },
+            None => Step::closed(),
         }
     }
 

@@ -4,11 +4,11 @@ use Rattle.sheet.specs.Stated.{stated}
 use Rattle.sheet.proofs.Lines.{Sofar}
 use Rattle.sheet.proofs.reader.read_lines.Given as goal
 
-abbrev pub invariant-loop-kind : goal.invariant-loop-kind
-invariant-loop-kind l =
-    Sofar l.sheet l.rest l.previous l.line (stated l.problem) ×
-    ((0 < length l.rest) ⊎ (l.line ≡ 1)) ×
-    (after_step l.previous ≡ true → 0 < l.problem.count)
+abbrev pub invariant-loop : goal.invariant-loop
+invariant-loop l =
+    Sofar l.sheet l.reader.rest.now l.reader.previous l.reader.line (stated l.problem) ×
+    ((0 < length l.reader.rest.now) ⊎ (l.reader.line ≡ 1)) ×
+    (after_step l.reader.previous ≡ true → 0 < l.problem.count)
 
-abbrev pub decreases-loop-kind : goal.decreases-loop-kind
-decreases-loop-kind l = length l.rest
+abbrev pub decreases-loop : goal.decreases-loop
+decreases-loop l = length l.reader.rest.now

@@ -1,36 +1,33 @@
-use Rattle.std.proofs.Common.{◌-◌, ◌≤◌, map, length, sym, refl, ◌∙◌, subst, arith}
-use Rattle.std.proofs.lemmas.List.{length-map}
+use Rattle.std.proofs.Common.{◌-◌, refl, ◌∙◌, arith}
+use Rattle.std.proofs.lemmas.List.{length-set}
 use Rattle.model.specs.Tables.{LiteralsBelow}
 use Rattle.sheet.specs.Job.{JobStep}
-use Rattle.sheet.specs.Records.{job_step, NeedsBelow, MakesBelow}
-use Rattle.sheet.specs.Stated.{stated}
+use Rattle.sheet.specs.Joins.{with_makes}
 use Rattle.sheet.proofs.Joining.{joins_below}
-use Rattle.sheet.specs.Stating.{named_below, below_64, at_set, same_room, make_told}
+use Rattle.sheet.specs.Stating.{named_below, at_row, at_rows, newest_told}
 use Rattle.sheet.proofs.problem.SheetProblem.add_make.Goals as goal
 
-pub add_make-requires : goal.add_make-requires
-add_make-requires c =
-    (below_64 c.args.self.now c.args.name.now c.in_ok-fact.fact c.in_ok-fact.ensures, omega (arith, c.requires, c.args.self.now.few_steps, c.args.self.now.step_room))
+pub invariant_of-self-clause-step_room : goal.invariant_of-self-clause-step_room
+invariant_of-self-clause-step_room c = length-set c.args.self.now.steps _ _ ∙ c.args.self.now.step_room
 
-pub invariant_of-self : goal.invariant_of-self
-invariant_of-self c =
+pub invariant_of-self-clause-makes_in : goal.invariant_of-self-clause-makes_in
+invariant_of-self-clause-makes_in c =
     let p = c.args.self.now in
     let f = c.in_ok-fact.fact in
-    let a = c.add_make.ensures in record {
-      short = p.short;
-      few_facts = p.few_facts;
-      few_steps = p.few_steps;
-      fact_room = p.fact_room;
-      step_room = same_room p.steps _ (p.count - 1) _ a.1 ∙ p.step_room;
-      start_in = p.start_in;
-      goal_in = p.goal_in;
-      goal_agrees = p.goal_agrees;
-      needs_in = subst (NeedsBelow p.named) (sym a.1) (at_set (λ (s : JobStep). LiteralsBelow p.named s.needs) _ (p.count - 1) _ (p.needs_in (p.count - 1)) p.needs_in);
-      makes_in = subst (MakesBelow p.named) (sym a.1) (at_set (λ (s : JobStep). LiteralsBelow p.named s.makes) _ (p.count - 1) _ (joins_below p.named _ a.0 f c.args.negative c.args.field c.add_make.result a.2 (named_below p c.args.name.now f c.in_ok-fact.ensures) (p.makes_in (p.count - 1))) p.makes_in);
-    }
+    at_rows (λ (s : JobStep). LiteralsBelow p.named s.makes) p.steps (p.count - 1) _
+    (joins_below p.named _ _ f.fact f.negative f.field c.join.result c.join.ensures (named_below p c.args.signed.name.bytes.now f.fact c.in_ok-fact.ensures.0)
+    (at_row (λ (s : JobStep). LiteralsBelow p.named s.makes) p.steps (p.count - 1) c.index-steps-newest.result (omega (arith, c.requires, p.few_steps, p.step_room)) p.makes_in))
+    p.makes_in
+
+pub invariant_of-self-clause-needs_in : goal.invariant_of-self-clause-needs_in
+invariant_of-self-clause-needs_in c =
+    let p = c.args.self.now in
+    at_rows (λ (s : JobStep). LiteralsBelow p.named s.needs) p.steps (p.count - 1) _
+    (at_row (λ (s : JobStep). LiteralsBelow p.named s.needs) p.steps (p.count - 1) c.index-steps-newest.result (omega (arith, c.requires, p.few_steps, p.step_room)) p.needs_in)
+    p.needs_in
 
 pub returns : goal.returns
 returns c =
-    let p = c.args.self.now in
-    let fit : p.count ≤ length (map job_step p.steps) = omega (arith, length-map p.steps job_step, p.few_steps, p.step_room) in
-    make_told (stated p) (map job_step p.steps) p.count refl c.requires fit _ c.in_ok-fact.fact c.args.negative c.args.name.now c.args.field c.add_make.result c.in_ok-fact.ensures c.add_make.ensures
+    let f = c.in_ok-fact.fact in
+    rw (← c.in_ok-fact.ensures.1, ← c.in_ok-fact.ensures.2)
+    (newest_told c.args.self.now c.requires with_makes (λ (s : JobStep). s.makes) c.index-steps-newest.result _ f.fact f.negative c.args.signed.name.bytes.now f.field c.join.result _ c.in_ok-fact.ensures.0 c.join.ensures refl)
