@@ -1,11 +1,11 @@
 // Pinning cells, and freeing them.
 ghost use Rattle.std.specs.Prelude.{◌≡◌, OnErr, OnOk};
 ghost use Rattle.model.specs.Plans.{unpinned};
-ghost use Rattle.planner.specs.Calls.{declined, pin_declines, unpin_declines, Began, Pins, pin_for};
-ghost use Rattle.planner.specs.Ledger.{Event.pin_call, Event.unpin_call};
+ghost use Rattle.planner.specs.Calls.{declined, pin_declines, unpin_declines, Began, Pins};
+ghost use Rattle.planner.specs.Ledger.{pin_for, Event.pin_call, Event.unpin_call};
 ghost use Rattle.planner.specs.Obeys.{Obeys, reply};
 
-use crate::tables::Planner;
+use crate::tables::{Planner, Stage};
 use model::answers::{Decline, Outcome};
 use model::path::Side;
 
@@ -22,7 +22,7 @@ impl Planner {
             return Err(Decline::Pinned);
         }
         self.search.pin(cell, Side::from(taken));
-        self.outcome = Outcome::NotYet;
+        self.stage = Stage::Asked(Outcome::NotYet);
         Ok(())
     }
 
@@ -38,7 +38,7 @@ impl Planner {
             return Err(Decline::Unpinned);
         }
         self.search.unpin(freed);
-        self.outcome = Outcome::NotYet;
+        self.stage = Stage::Asked(Outcome::NotYet);
         Ok(())
     }
 }
