@@ -50,8 +50,9 @@ impl Planner {
         ensures beyond { drop result answers.new ≡ drop result answers.old }
     {
         let count = calls.len().min(answers.len());
-        for i in 0..count {
-            answers[i] = self.carry(calls[i], source, ranking, out);
+        // By index: what is written through `zip` with the answers' `iter_mut` is not known after the loop.
+        for (i, call) in calls[..count].iter().enumerate() {
+            answers[i] = self.carry(*call, source, ranking, out);
         }
         count
     }
