@@ -129,11 +129,11 @@ mod tests {
             Call::Report,
             Call::Run(0),
         ];
-        let mut answers = [Answer::Done; 4];
+        let mut answers = [Ok(Answer::Done); 4];
         let mut out = [0; 64];
         assert!(rt; planner.carry_out(&calls, &water, &Forward, &mut answers, &mut out) == 4);
         match answers[3] {
-            Answer::Wrote(n) => {
+            Ok(Answer::Wrote(n)) => {
                 assert!(rt; n == 36);
                 Ok(())
             }

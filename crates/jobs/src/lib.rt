@@ -54,9 +54,6 @@ pub fn answer(planner: &mut Planner, bytes: &[u8], out: &mut [u8]) -> Result<usi
     let mut problem = SheetProblem::empty();
     match read(bytes, &mut problem) {
         Ok(()) => plan(planner, problem, out),
-        Err(fault) => match write_fault(&fault, out) {
-            Ok(n) => Ok(n),
-            Err(_) => Err(Decline::TooShort),
-        },
+        Err(fault) => write_fault(&fault, out).map_err(|_| Decline::TooShort),
     }
 }

@@ -35,7 +35,7 @@ take_upto xs cell (suc n) l h =
 
 -- an ask
 pub ask_enters : (s s' : Search) (T : ℕ) (o : Order) (p : Problem) → problem_of s.problem ≡ p → Asked s T o s'
-    → ledger_at stage.Asked s' NotYet
+    → ledger_at (stage.Asked NotYet) s'
     ≡ asked p (record { length = T; order = cells_upto (o.cell T (steps p)) (T * steps p); pins = no_pins; outcome = 0 })
 ask_enters s s' T o p e a =
     let same : problem_of s'.problem ≡ problem_of s.problem = ap problem_of a.problem in
@@ -49,7 +49,7 @@ ask_enters s s' T o p e a =
 
 -- a pin set or struck
 pub pin_enters : (s s' : Search) (x : Outcome) (c : Cell) (pin : Pin) (t o : ℕ) → c.time ≡ t → c.step ≡ o → t < 32 → Repinned s c pin s'
-    → ledger_at stage.Asked s' NotYet ≡ repin (ledger_at stage.Asked s x) t o pin
+    → ledger_at (stage.Asked NotYet) s' ≡ repin (ledger_at (stage.Asked x) s) t o pin
 pin_enters s s' x c pin t o e f l r =
     let same : problem_of s'.problem ≡ problem_of s.problem = ap problem_of r.problem in
     let count : s'.length * steps (problem_of s'.problem) ≡ s.length * steps (problem_of s.problem)

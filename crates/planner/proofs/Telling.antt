@@ -28,16 +28,16 @@ use Rattle.search.proofs.Beginnings.{table_well}
 use Rattle.planner.specs.declared.tables.Planner.{Planner}
 use Rattle.planner.specs.declared.tables.Stage.{Stage}
 use Rattle.planner.specs.declared.tables.Stage.TheVariants as stage
-use Rattle.planner.specs.Endings.{FirstOf, Ends}
+use Rattle.planner.specs.Endings.{FirstOf, EndsWith}
 use Rattle.planner.specs.Ledger.{Ledger}
 use Rattle.planner.specs.Promises.{RunSays, CardOf, FirstPlan}
 use Rattle.planner.specs.Obeys.{ledger_at, ledger}
 use Rattle.planner.specs.Cards.{Writes}
-use Rattle.planner.proofs.Saying.{no_entries, plan_card}
+use Rattle.planner.proofs.Saying.{no_entries, ended_with, table_card}
 
 -- an ending answers the same again
-pub says_again : (s : Search) (g : ℕ) (o : Outcome) → (o ≡ NotYet → ⊥) → ∥ Ends s o ∥₁
-    → RunSays (ledger_at stage.Asked s o) g (path_of s) (outcome_number o) (path_of s)
+pub says_again : (s : Search) (g : ℕ) (o : Outcome) → (o ≡ NotYet → ⊥) → ∥ EndsWith s o ∥₁
+    → RunSays (ledger_at (stage.Asked o) s) g (path_of s) (outcome_number o) (path_of s)
 says_again s g NotYet n t = absurd (n refl)
 says_again s g Plan n t = record {
   small = omega arith;
@@ -62,7 +62,7 @@ says_again s g NoPlan n t = record {
 
 -- what a run says where nothing was known before it
 pub says : (s s' : Search) (g : ℕ) (o : Outcome) → asked s' ≡ asked s → Ran s g o s'
-    → RunSays (ledger_at stage.Asked s NotYet) g (path_of s) (outcome_number o) (path_of s')
+    → RunSays (ledger_at (stage.Asked NotYet) s) g (path_of s) (outcome_number o) (path_of s')
 says s s' g NotYet e r = record {
   small = omega arith;
   fair = λ h. subst (λ (a : Ask). Fair a.length (steps a.problem) a.pins (path_of s')) e (kept_now s').fair;
@@ -107,46 +107,42 @@ before_cut C order p q b =
       λ j l. let k : j < C = omega (arith, b.1) in ap (at p) (same j k) ∙ b.4 j l ∙ sym (ap (at q) (same j k)),
     )
 
-pub first_cut : (s : Search) (o : Outcome) (c : Cells) → FirstOf s c → FirstPlan (ledger_at stage.Asked s o) c
+pub first_cut : (s : Search) (o : Outcome) (c : Cells) → FirstOf s c → FirstPlan (ledger_at (stage.Asked o) s) c
 first_cut s o c f = (f.0, λ q w. ⊎_elim (λ e. inl e) (λ b. inr (before_cut (s.length * steps (problem_of s.problem)) s.order c q b)) (f.1 q w))
 
-card_not_yet : (s : Search) → CardOf (ledger_at stage.Asked s NotYet) not_yet_card
+card_not_yet : (s : Search) → CardOf (ledger_at (stage.Asked NotYet) s) not_yet_card
 card_not_yet s = record { not_yet = λ h. refl; plan = λ h. absurd (omega arith); none = λ h. absurd (omega arith) }
 
-card_none : (s : Search) → CardOf (ledger_at stage.Asked s NoPlan) none_card
+card_none : (s : Search) → CardOf (ledger_at (stage.Asked NoPlan) s) none_card
 card_none s = record { not_yet = λ h. absurd (omega arith); plan = λ h. absurd (omega arith); none = λ h. refl }
 
-card_plan : (s : Search) → FirstOf s (plan_of s) → CardOf (ledger_at stage.Asked s Plan) (card_of (plan_of s) (steps (problem_of s.problem)) s.length)
+card_plan : (s : Search) → FirstOf s (plan_of s) → CardOf (ledger_at (stage.Asked Plan) s) (card_of (plan_of s) (steps (problem_of s.problem)) s.length)
 card_plan s f = record {
   not_yet = λ h. absurd (omega arith);
   plan = λ h. (plan_of s, first_cut s Plan (plan_of s) f, order_free (problem_of s.problem) s.length (plan_of s) (table_well s.problem) f.0.plan, refl);
   none = λ h. absurd (omega arith);
 }
 
--- the ledger of a planner that something was asked of
-pub asked_ledger : (p : Planner) (o : Outcome) → p.stage ≡ stage.Asked → p.outcome ≡ o → ledger p ≡ ledger_at stage.Asked p.search o
-asked_ledger p o h e = ap (λ (x : Stage). ledger_at x p.search p.outcome) h ∙ ap (λ (x : Outcome). ledger_at stage.Asked p.search x) e
+-- the ledger of a planner at a stage
+pub ledger_so : (p : Planner) (x : Stage) → p.stage ≡ x → ledger p ≡ ledger_at x p.search
+ledger_so p x h = ap (λ (y : Stage). ledger_at y p.search) h
 
-writes_as : (p : Planner) (o : Outcome) (out out' : List ℕ) (r : Option ℕ) → p.outcome ≡ o
-    → ∥ ((text : List ℕ) × CardOf (ledger_at stage.Asked p.search o) text × Fitted text out r out') ∥₁ → Writes p out r out'
-writes_as p o out out' r e w h = subst (λ (L : Ledger). ∥ ((text : List ℕ) × CardOf L text × Fitted text out r out') ∥₁) (sym (asked_ledger p o h e)) w
+writes_as : (p : Planner) (o : Outcome) (out out' : List ℕ) (r : Option ℕ) → p.stage ≡ stage.Asked o
+    → ∥ ((text : List ℕ) × CardOf (ledger_at (stage.Asked o) p.search) text × Fitted text out r out') ∥₁ → Writes p out r out'
+writes_as p o out out' r e w = subst (λ (L : Ledger). ∥ ((text : List ℕ) × CardOf L text × Fitted text out r out') ∥₁) (sym (ledger_so p (stage.Asked o) e)) w
 
-pub writes_not_yet : (p : Planner) (out out' : List ℕ) (r : Option ℕ) → p.outcome ≡ NotYet → Fitted not_yet_card out r out' → Writes p out r out'
+pub writes_not_yet : (p : Planner) (out out' : List ℕ) (r : Option ℕ) → p.stage ≡ stage.Asked NotYet → Fitted not_yet_card out r out' → Writes p out r out'
 writes_not_yet p out out' r e f = writes_as p NotYet out out' r e ∣ (not_yet_card, card_not_yet p.search, f) ∣₁
 
-pub writes_none : (p : Planner) (out out' : List ℕ) (r : Option ℕ) → p.outcome ≡ NoPlan → Fitted none_card out r out' → Writes p out r out'
+pub writes_none : (p : Planner) (out out' : List ℕ) (r : Option ℕ) → p.stage ≡ stage.Asked NoPlan → Fitted none_card out r out' → Writes p out r out'
 writes_none p out out' r e f = writes_as p NoPlan out out' r e ∣ (none_card, card_none p.search, f) ∣₁
 
 -- the card of the plan that was found
-pub writes_plan : (p : Planner) (out out' : List ℕ) (r : Option ℕ) (table : List StepSet) (m T : ℕ) → p.outcome ≡ Plan
+pub writes_plan : (p : Planner) (out out' : List ℕ) (r : Option ℕ) (table : List StepSet) (m T : ℕ) → p.stage ≡ stage.Asked Plan
     → table ≡ p.search.plan.taken → m ≡ steps (problem_of p.search.problem) → T ≡ p.search.length
     → Fitted (card_of (taken_in table) m (min T 32)) out r out' → Writes p out r out'
 writes_plan p out out' r table m T e a b c f =
     let s = p.search in
-    let short : min T 32 ≡ s.length = omega (arith, c, s.short) in
-    let same : card_of (taken_in table) m (min T 32) ≡ card_of (plan_of s) (steps (problem_of s.problem)) s.length
-    = ap (λ (z : List StepSet). card_of (taken_in z) m (min T 32)) a ∙ ap (λ (n : ℕ). card_of (taken_in s.plan.taken) n (min T 32)) b
-    ∙ ap (λ (n : ℕ). card_of (taken_in s.plan.taken) (steps (problem_of s.problem)) n) short ∙ plan_card s in
     writes_as p Plan out out' r e
-    (∥∥₁_map (subst (λ (o : Outcome). ∥ Ends s o ∥₁) e p.ended)
-    (λ w. (card_of (plan_of s) (steps (problem_of s.problem)) s.length, card_plan s w.0, subst (λ (text : List ℕ). Fitted text out r out') same f)))
+    (∥∥₁_map (ended_with p Plan e)
+    (λ w. (card_of (plan_of s) (steps (problem_of s.problem)) s.length, card_plan s w.0, subst (λ (text : List ℕ). Fitted text out r out') (table_card s table m T a b c) f)))

@@ -5,7 +5,7 @@ use Rattle.model.specs.declared.answers.Outcome.TheVariants.{NotYet, Plan, NoPla
 use Rattle.model.specs.declared.answers.Decline.{Decline}
 use Rattle.model.specs.declared.answers.Decline.TheVariants.{Unopened, Unasked, TooLong, OutOfRange, Pinned, Unpinned, Grant, TooShort}
 use Rattle.model.specs.Problems.{steps}
-use Rattle.model.specs.Plans.{Cells, Pin, take, leave, unpinned}
+use Rattle.model.specs.Plans.{Cells, Pin}
 use Rattle.model.specs.Held.{problem_of}
 use Rattle.model.specs.Paths.{passed}
 use Rattle.model.specs.Choices.{Fair}
@@ -18,6 +18,7 @@ use Rattle.planner.specs.declared.tables.Stage.{Stage}
 use Rattle.planner.specs.declared.tables.Stage.TheVariants.{New, Opened, Asked}
 use Rattle.planner.specs.declared.tables.Planner.{Planner}
 use Rattle.planner.specs.Endings.{FirstOf}
+use Rattle.planner.specs.Ledger.{is_pinned}
 
 -- what a call was declined with, if it was
 abbrev pub declined : {X : Type 0} → Result X Decline → Option Decline
@@ -27,17 +28,18 @@ declined (Err e) = Some e
 abbrev pub unopened : Stage → Bool
 unopened New = true
 unopened Opened = false
-unopened Asked = false
+unopened (Asked o) = false
 
 abbrev pub unasked : Stage → Bool
 unasked New = true
 unasked Opened = true
-unasked Asked = false
+unasked (Asked o) = false
 
-abbrev pub is_pinned : Pin → Bool
-is_pinned unpinned = false
-is_pinned take = true
-is_pinned leave = true
+-- how the last run ended; not yet, before an ask
+abbrev pub outcome : Stage → Outcome
+outcome New = NotYet
+outcome Opened = NotYet
+outcome (Asked o) = o
 
 -- the smallest fitting number: nothing opened, then nothing asked, then what the call itself adds
 abbrev pub unless_asked : Planner → Option Decline → Option Decline
@@ -63,13 +65,8 @@ look_declines p = unless_asked p Nothing
 
 -- a search of what was asked begins: nothing is known of it yet
 pub record Began (q : Planner) : Type 0 where
-  pub stage : q.stage ≡ Asked
-  pub outcome : q.outcome ≡ NotYet
+  pub stage : q.stage ≡ Asked NotYet
   pub fresh : path_of q.search ≡ []
-
-abbrev pub pin_for : Bool → Pin
-pin_for true = take
-pin_for false = leave
 
 -- one cell's pin is this now; all else that is asked is as before
 pub record Pins (p : Planner) (t o : ℕ) (pin : Pin) (q : Planner) : Type 0 where
@@ -98,7 +95,7 @@ CardOf p NoPlan text = text ≡ none_card
 
 -- the card of the outcome is written whole, or there are too few bytes for it and they stand as before
 abbrev pub Writes : Planner → List ℕ → Option ℕ → List ℕ → Type 0
-Writes p out r out' = ∥ ((text : List ℕ) × CardOf p p.outcome text × Fitted text out r out') ∥₁
+Writes p out r out' = ∥ ((text : List ℕ) × CardOf p (outcome p.stage) text × Fitted text out r out') ∥₁
 
 -- a report: declined before an ask, with the bytes as they were; else the card of the outcome, or declined for want of bytes
 abbrev pub Reports : Planner → List ℕ → Result ℕ Decline → List ℕ → Type 0

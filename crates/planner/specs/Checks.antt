@@ -1,6 +1,7 @@
 -- What the planner's own checks find before a call is carried out. Assumes nothing.
 use Rattle.std.specs.Prelude.{◌≡◌, ℕ, ◌<◌, [], ◌∷◌, Result, MatchResult}
 use Rattle.model.specs.declared.cell.Cell.{Cell}
+use Rattle.model.specs.declared.answers.Outcome.{Outcome}
 use Rattle.model.specs.declared.answers.Decline.{Decline}
 use Rattle.model.specs.Problems.{steps}
 use Rattle.model.specs.Held.{problem_of}
@@ -25,7 +26,8 @@ cell_rows p t o = first_fitting ((unopened (ledger p), 21) ∷ (unasked (ledger 
 
 -- something was asked, and c is the cell of the time and the step, which are in range
 pub record InRange (p : Planner) (t o : ℕ) (c : Cell) : Type 0 where
-  pub stage : p.stage ≡ stage.Asked
+  pub outcome : Outcome
+  pub stage : p.stage ≡ stage.Asked outcome
   pub time : c.time ≡ t
   pub step : c.step ≡ o
   pub in_time : t < p.search.length

@@ -1,6 +1,5 @@
 -- What each call of a planner does: it writes into the ledger, keeps its promise, and changes nothing where it is declined. Assumes nothing.
 use Rattle.std.specs.Prelude.{◌≡◌, ◌*◌, ◌<◌, List, [], take, Ok, Err, Result}
-use Rattle.model.specs.declared.answers.Outcome.{Outcome}
 use Rattle.model.specs.declared.answers.Decline.{Decline}
 use Rattle.model.specs.declared.path.Entry.{Entry}
 use Rattle.model.specs.Problems.{steps}
@@ -21,10 +20,10 @@ reply f (Ok x) = answered (f x)
 reply f (Err e) = declined (decline_number e)
 
 -- the ledger that a planner's tables hold
-abbrev pub ledger_at : Stage → Search → Outcome → Ledger
-ledger_at stage.New s o = blank
-ledger_at stage.Opened s o = opened (problem_of s.problem)
-ledger_at stage.Asked s o = asked (problem_of s.problem) (record {
+abbrev pub ledger_at : Stage → Search → Ledger
+ledger_at stage.New s = blank
+ledger_at stage.Opened s = opened (problem_of s.problem)
+ledger_at (stage.Asked o) s = asked (problem_of s.problem) (record {
   length = s.length;
   order = take (s.length * steps (problem_of s.problem)) s.order;
   pins = pins_of s.pins;
@@ -32,7 +31,7 @@ ledger_at stage.Asked s o = asked (problem_of s.problem) (record {
 })
 
 abbrev pub ledger : Planner → Ledger
-ledger p = ledger_at p.stage p.search p.outcome
+ledger p = ledger_at p.stage p.search
 
 -- the path that a planner shows
 abbrev pub path : Planner → List Entry

@@ -1,5 +1,5 @@
 // A call as a value, and what it answers.
-use model::answers::{Decline, Forced, Outcome};
+use model::answers::{Forced, Outcome};
 use model::path::Entry;
 
 // One of the eight calls. What open copies, what ask orders by and what a report writes into goes along with it.
@@ -27,11 +27,10 @@ pub enum Call {
     Report,
 }
 
-// What a call answers: that it was done or declined, or what it was asked for.
+// What a call answers that is not declined: that it was done, or what it was asked for.
 #[derive(Clone, Copy)]
 pub enum Answer {
     Done,
-    Declined(Decline),
     Ran(Outcome),
     Forced(Forced),
     Entry(Option<Entry>),

@@ -4,7 +4,7 @@ ghost use Rattle.model.specs.Problems.{steps as row_count};
 ghost use Rattle.model.specs.Held.{problem_of};
 ghost use Rattle.search.specs.Begins.{Opened as OpenedOver, Asked as AskedFor};
 ghost use Rattle.search.specs.Looks.{asked as asked_of, path_of, no_entry};
-ghost use Rattle.planner.specs.Calls.{declined, unless_asked, unless_out, ask_declines, run_declines, look_declines, Began, RunSays};
+ghost use Rattle.planner.specs.Calls.{declined, unless_asked, unless_out, ask_declines, run_declines, look_declines, unasked, Began, RunSays};
 ghost use Rattle.model.specs.Answers.{outcome_number, forced_number};
 ghost use Rattle.planner.specs.Ledger.{Event.open_call, Event.ask_call, Event.run_call, Event.forced_call, Event.path_call};
 ghost use Rattle.planner.specs.Obeys.{Obeys, Fresh, reply};
@@ -27,7 +27,6 @@ impl Planner {
         Planner {
             stage: Stage::New,
             search: Search::new(),
-            outcome: Outcome::NotYet,
         }
     }
 
@@ -46,7 +45,6 @@ impl Planner {
     {
         self.search.open(source);
         self.stage = Stage::Opened;
-        self.outcome = Outcome::NotYet;
     }
 
     // Declines where nothing was opened.
@@ -56,19 +54,19 @@ impl Planner {
     {
         match self.stage {
             Stage::New => Err(Decline::Unopened),
-            Stage::Opened | Stage::Asked => Ok(()),
+            Stage::Opened | Stage::Asked(_) => Ok(()),
         }
     }
 
-    // Declines where nothing was opened, or nothing asked.
-    pub(crate) fn asked(&self) -> Result<(), Decline>
+    // How the last run ended; declines where nothing was opened, or nothing asked.
+    pub(crate) fn asked(&self) -> Result<Outcome, Decline>
         ensures number { declined result ≡ look_declines self.now }
-        ensures checked { Checked (ask_rows self.now) (λ _. self.now.stage ≡ Stage.Asked) result }
+        ensures checked { Checked (ask_rows self.now) (λ o. self.now.stage ≡ Stage.Asked o) result }
     {
         match self.stage {
             Stage::New => Err(Decline::Unopened),
             Stage::Opened => Err(Decline::Unasked),
-            Stage::Asked => Ok(()),
+            Stage::Asked(last) => Ok(last),
         }
     }
 
@@ -84,8 +82,7 @@ impl Planner {
             return Err(Decline::TooLong);
         }
         self.search.ask(length, ranking);
-        self.stage = Stage::Asked;
-        self.outcome = Outcome::NotYet;
+        self.stage = Stage::Asked(Outcome::NotYet);
         Ok(())
     }
 
@@ -110,20 +107,20 @@ impl Planner {
         ensures number { declined result ≡ run_declines self.old choices }
         ensures kept { OnErr result (self.new ≡ self.old) }
         ensures says { IfOk result (λ o. RunSays self.old choices o self.new) }
-        ensures after { IfOk result (λ o. self.new.outcome ≡ o) }
-        ensures same { (asked_of self.new.search ≡ asked_of self.old.search) × (self.new.stage ≡ self.old.stage) }
+        ensures after { IfOk result (λ o. self.new.stage ≡ Stage.Asked o) }
+        ensures same { (asked_of self.new.search ≡ asked_of self.old.search) × (unasked self.new.stage ≡ unasked self.old.stage) }
         ensures obeys { Obeys self.old (run_call choices (reply outcome_number result)) self.new }
     {
-        self.asked()?;
+        let last = self.asked()?;
         if choices == 0 || choices > 1000000 {
             return Err(Decline::Grant);
         }
-        match self.outcome {
+        match last {
             Outcome::NotYet => {}
             ended => return Ok(ended),
         }
         let outcome = self.search.run(choices);
-        self.outcome = outcome;
+        self.stage = Stage::Asked(outcome);
         Ok(outcome)
     }
 

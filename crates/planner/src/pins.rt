@@ -1,20 +1,13 @@
 // Pinning cells, and freeing them.
 ghost use Rattle.std.specs.Prelude.{◌≡◌, OnErr, OnOk};
 ghost use Rattle.model.specs.Plans.{unpinned};
-ghost use Rattle.marks.specs.Pinning.{pin_of};
-ghost use Rattle.planner.specs.Calls.{declined, pin_declines, unpin_declines, Began, Pins, pin_for};
-ghost use Rattle.planner.specs.Ledger.{Event.pin_call, Event.unpin_call};
+ghost use Rattle.planner.specs.Calls.{declined, pin_declines, unpin_declines, Began, Pins};
+ghost use Rattle.planner.specs.Ledger.{pin_for, Event.pin_call, Event.unpin_call};
 ghost use Rattle.planner.specs.Obeys.{Obeys, reply};
 
-use crate::tables::Planner;
+use crate::tables::{Planner, Stage};
 use model::answers::{Decline, Outcome};
 use model::path::Side;
-
-fn side_of(taken: bool) -> Side
-    ensures { pin_of result ≡ pin_for taken }
-{
-    if taken { Side::Taken } else { Side::LeftOut }
-}
 
 impl Planner {
     // Pins a cell as taken or left out.
@@ -25,11 +18,11 @@ impl Planner {
         ensures obeys { Obeys self.old (pin_call time step taken (reply (λ u. u) result)) self.new }
     {
         let cell = self.cell(time, step)?;
-        if let Some(_) = self.search.pin_at(cell) {
+        if self.search.pin_at(cell).is_some() {
             return Err(Decline::Pinned);
         }
-        self.search.pin(cell, side_of(taken));
-        self.outcome = Outcome::NotYet;
+        self.search.pin(cell, Side::from(taken));
+        self.stage = Stage::Asked(Outcome::NotYet);
         Ok(())
     }
 
@@ -41,11 +34,11 @@ impl Planner {
         ensures obeys { Obeys self.old (unpin_call time step (reply (λ u. u) result)) self.new }
     {
         let freed = self.cell(time, step)?;
-        if let None = self.search.pin_at(freed) {
+        if self.search.pin_at(freed).is_none() {
             return Err(Decline::Unpinned);
         }
         self.search.unpin(freed);
-        self.outcome = Outcome::NotYet;
+        self.stage = Stage::Asked(Outcome::NotYet);
         Ok(())
     }
 }

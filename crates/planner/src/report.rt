@@ -1,4 +1,6 @@
 // Reporting the outcome as a job card.
+ghost use Rattle.std.specs.Prelude.{◌≡◌};
+ghost use Rattle.planner.specs.declared.tables.Stage.{Stage};
 ghost use Rattle.planner.specs.Calls.{Writes, Reports};
 ghost use Rattle.planner.specs.Ledger.{Event.report_call};
 ghost use Rattle.planner.specs.Obeys.{Obeys, reply};
@@ -10,11 +12,12 @@ use text::card::{write_card, write_none, write_not_yet};
 
 impl Planner {
     // Writes the card into the bytes, if there is room for all of it.
-    fn write(&self, out: &mut [u8]) -> Option<usize>
+    fn write(&self, outcome: Outcome, out: &mut [u8]) -> Option<usize>
+        requires asked { self.now.stage ≡ Stage.Asked outcome }
         ensures card { Writes self.now out.old result out.new }
         ensures told { WritesCard self.now out.old result out.new }
     {
-        match self.outcome {
+        match outcome {
             Outcome::NotYet => write_not_yet(out),
             Outcome::NoPlan => write_none(out),
             Outcome::Plan => write_card(
@@ -31,7 +34,7 @@ impl Planner {
         ensures says { Reports self.now out.old result out.new }
         ensures obeys { Obeys self.now (report_call out.old (reply (λ n. n) result) out.new) self.now }
     {
-        self.asked()?;
-        self.write(out).ok_or(Decline::TooShort)
+        let outcome = self.asked()?;
+        self.write(outcome, out).ok_or(Decline::TooShort)
     }
 }

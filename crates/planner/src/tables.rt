@@ -1,21 +1,20 @@
-// The planner's state: the search, how far the calls have come, and how the last run ended.
+// The planner's state: the search, and how far the calls have come.
 ghost use Rattle.planner.specs.Endings.{Ends};
 
 use model::answers::Outcome;
 use search::tables::Search;
 
-// What was called so far: nothing, an open, or an ask after it.
+// What was called so far: nothing, an open, or an ask after it, with how the last run ended.
 #[derive(Clone, Copy)]
 pub enum Stage {
     New,
     Opened,
-    Asked,
+    Asked(Outcome),
 }
 
 #[derive(Drop)]
 pub struct Planner {
     pub(crate) stage: Stage,
     pub(crate) search: Search,
-    pub(crate) outcome: Outcome,
-    ghost ended: { ∥ Ends search outcome ∥₁ },
+    ghost ended: { ∥ Ends search stage ∥₁ },
 }

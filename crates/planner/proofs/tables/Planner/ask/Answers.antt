@@ -12,4 +12,4 @@ not_fitting true h = absurd (omega arith)
 not_fitting false h = refl
 
 pub returns-clause-obeys : goal.returns-clause-obeys
-returns-clause-obeys g c = ask_obeys c.args.self.now _ c.args.length _ (not_fitting (unopened (ledger c.args.self.now)) c.in_ok-opened.ensures.checked.0) (omega arith) refl refl c.ask.ensures
+returns-clause-obeys g c = ask_obeys c.args.self.now _ c.args.length _ (not_fitting (unopened (ledger c.args.self.now)) c.in_ok-opened.ensures.checked.0) (omega arith) refl c.ask.ensures
