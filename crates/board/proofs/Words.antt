@@ -1,5 +1,5 @@
--- A line that spells a command begins with the command's word, and the other way round.
-use Rattle.std.proofs.Common.{◌≡◌, ℕ, Bool, true, false, List, [], ◌∷◌, ◌++◌, sym, ◌∙◌, subst, arith}
+-- A line that spells a command begins with the command's word, which stands in the table of words.
+use Rattle.std.proofs.Common.{◌≡◌, ℕ, ◌<◌, ◌≤◌, Bool, true, false, List, [], ◌∷◌, ◌++◌, Option, None, Some, MatchOption, IsSomeAnd, get_or, refl, sym, ap, ◌∙◌, subst, arith}
 use Rattle.std.proofs.lemmas.List.{append_cancel_left}
 use Rattle.board.specs.declared.command.Command.{Command}
 use Rattle.board.specs.declared.command.Command.TheVariants as command_is
@@ -8,24 +8,32 @@ use Rattle.board.specs.declared.command.Word.TheVariants as word_is
 use Rattle.board.specs.declared.field.SourceName.{SourceName}
 use Rattle.board.specs.declared.field.SourceName.TheVariants.{Sheet, Water}
 use Rattle.board.specs.Fields.{Number, SourceIs}
-use Rattle.board.specs.Commands.{Spells, Begins, FieldsOf, headed, word_of}
+use Rattle.board.specs.Commands.{Spells, Begins, InFields, FieldsOf, word_of}
 
-pub spells_begins : (c : Command) (w : Word) (s : List ℕ) → ((v : Word) (f : List ℕ) → s ≡ headed v f → w ≡ v) → Spells c s → Begins c w s
-spells_begins c w s only p =
-    let e : w ≡ word_of c = only (word_of c) p.rest p.whole in
-    record {
-      rest = p.rest;
-      whole = subst (λ v. s ≡ headed v p.rest) (sym e) p.whole;
-      inside = record { word = sym e; fields = p.fields };
-    }
+-- all words, in the order of the program's table
+abbrev pub every_word : List Word
+every_word = word_is.Open ∷ word_is.Ask ∷ word_is.Pin ∷ word_is.Unpin ∷ word_is.Run ∷ word_is.Forced ∷ word_is.Path ∷ word_is.Report ∷ word_is.Kept ∷ []
 
-pub begins_spells : (c : Command) (w : Word) (s : List ℕ) → Begins c w s → Spells c s
-begins_spells c w s b =
-    record {
-      rest = b.rest;
-      whole = subst (λ v. s ≡ headed v b.rest) (sym b.inside.word) b.whole;
-      fields = b.inside.fields;
-    }
+abbrev Listed : Word → Type 0
+Listed w = (k : ℕ) × (k < 9) × (get_or every_word k word_is.Open ≡ w)
+
+listed : (w : Word) → Listed w
+listed word_is.Open = (0, omega arith, refl)
+listed word_is.Ask = (1, omega arith, refl)
+listed word_is.Pin = (2, omega arith, refl)
+listed word_is.Unpin = (3, omega arith, refl)
+listed word_is.Run = (4, omega arith, refl)
+listed word_is.Forced = (5, omega arith, refl)
+listed word_is.Path = (6, omega arith, refl)
+listed word_is.Report = (7, omega arith, refl)
+listed word_is.Kept = (8, omega arith, refl)
+
+-- a line that begins as no command of any word spells none
+pub none_spelled : (s : List ℕ) (n : ℕ) → 9 ≤ n → ((k : ℕ) → k < n → (c : Command) → Begins c (get_or every_word k word_is.Open) s → ⊥) → (c : Command) → Spells c s → ⊥
+none_spelled s n h none c p =
+    let t = listed (word_of c) in
+    let b : Begins c (word_of c) s = record { rest = p.rest; whole = p.whole; inside = record { word = refl; fields = p.fields } } in
+    none t.0 (omega (arith, t.1)) c (subst (λ w. Begins c w s) (sym t.2) b)
 
 -- the words whose one field is a number
 abbrev pub counts : Word → Bool
@@ -52,6 +60,13 @@ counted (command_is.Forced time step) f e p = absurd (clash e)
 counted (command_is.Path place) f e p = (place, p)
 counted command_is.Report f e p = absurd (clash e)
 counted (command_is.Kept one other) f e p = absurd (clash e)
+
+-- a command of one number is made of that number, where there is one
+pub counted_command : (w : Word) (f : List ℕ) (r : Option ℕ) (m : Option Command) (Post : ℕ → Command → Type 0) → counts w ≡ true → MatchOption r ((n : ℕ) → Number f n → ⊥) (λ n. Number f n) → MatchOption r (m ≡ None) (λ n. IsSomeAnd m (Post n)) → ((n : ℕ) (c : Command) → Post n c → Number f n → InFields c w f) → MatchOption m ((c : Command) → InFields c w f → ⊥) (λ c. InFields c w f)
+counted_command w f None None Post e a b make = λ c p. let n = counted c f (ap counts p.word ∙ e) p.fields in a n.0 n.1
+counted_command w f None (Some c) Post e a b make = absurd cc
+counted_command w f (Some n) None Post e a b make = absurd b
+counted_command w f (Some n) (Some c) Post e a b make = make n c b a
 
 -- sheet
 abbrev pub sheet_bytes : List ℕ

@@ -1,49 +1,67 @@
 // What the board holds, and how it answers each command.
 use crate::command::{Command, parse};
 use crate::field::{RankingName, SourceName};
-use crate::number::number_of;
 use anyhow::anyhow;
 use clauses::record::ClauseRecord;
-use model::answers::{Decline, Forced, Outcome};
-use model::path::{Entry, Side};
+use model::answers::Decline;
+use model::path::Entry;
 use model::source::ProblemSource;
-use model::table::ProblemTable;
 use planner::tables::Planner;
+use sheet::fault::SheetFault;
 use sheet::fault_line::write_fault;
 use sheet::problem::SheetProblem;
 use sheet::reader::read;
 use sources::by_step::ByStep;
 use sources::filter::ReachFilter;
 use sources::forward::Forward;
-use sources::water::WaterLine;
-use std::fs;
+use sources::water::{MetersFault, WaterLine};
+use std::fmt::Display;
 use std::io::Write;
 use std::str::from_utf8;
+use std::{fmt, fs};
 
 // No job card is longer: 32 lines of at most 256 steps.
 const CARD: usize = 32768;
 
-// The planner, the clause record of the source that was opened last, and whether one was.
+// The planner, and the clause record of the source that was opened last.
 #[derive(Drop)]
 pub(crate) struct Board {
     planner: Planner,
-    record: ClauseRecord,
-    opened: bool,
+    record: Option<ClauseRecord>,
 }
 
 impl Board {
     pub(crate) fn new() -> Board {
         Board {
             planner: Planner::new(),
-            record: ClauseRecord::empty(),
-            opened: false,
+            record: None,
         }
     }
 
     fn open<S: ProblemSource>(&mut self, source: &S) {
         self.planner.open(source);
-        self.record.make(&ProblemTable::of(source));
-        self.opened = true;
+        self.record = Some(ClauseRecord::of(source));
+    }
+
+    // Opens the source, or the reach filter over it.
+    fn open_through<S: ProblemSource + Drop>(&mut self, filtered: bool, source: S) {
+        if filtered {
+            self.open(&ReachFilter::new(source));
+        } else {
+            self.open(&source);
+        }
+    }
+
+    fn open_water(&mut self, filtered: bool, meters: u32) -> Result<(), MetersFault> {
+        self.open_through(filtered, WaterLine::new(meters as usize)?);
+        Ok(())
+    }
+
+    fn open_bytes(&mut self, filtered: bool, bytes: &[u8]) -> Result<(), SheetFault> {
+        let mut problem = SheetProblem::empty();
+        read(bytes, &mut problem)?;
+        self.open_through(filtered, problem);
+        Ok(())
     }
 
     fn ask(&mut self, times: u32, ranking: RankingName) -> Result<(), Decline> {
@@ -54,82 +72,54 @@ impl Board {
     }
 
     fn kept(&self, one: u32, other: u32) -> Result<bool, Decline> {
-        if self.opened {
-            self.record.kept(one as usize, other as usize)
-        } else {
-            Err(Decline::Unopened)
+        let record = self.record.as_ref().ok_or(Decline::Unopened)?;
+        record.kept(one as usize, other as usize)
+    }
+}
+
+// What the path has at a place.
+#[derive(Clone, Copy)]
+struct AtPlace(Option<Entry>);
+
+impl Display for AtPlace {
+    fn fmt<W: fmt::Write>(&self, f: &mut fmt::Formatter<W>) -> fmt::Result {
+        match self.0 {
+            Some(entry) => write!(f, "{entry}"),
+            None => f.write_str("no entry"),
         }
     }
 }
 
-fn say(rt: &HostRuntime, text: &str) -> anyhow::Result<()> {
-    println!(rt; "{text}")?;
-    Ok(())
-}
-
-fn declined(rt: &HostRuntime, decline: Decline) -> anyhow::Result<()> {
-    let number = number_of(decline);
-    println!(rt; "declined {number}")?;
-    Ok(())
-}
-
-fn done(rt: &HostRuntime, res: Result<(), Decline>) -> anyhow::Result<()> {
+// Prints what was answered, or the number that the call is declined with.
+fn tell<T: Display + Drop, E: Into<u8>>(rt: &HostRuntime, res: Result<T, E>) -> anyhow::Result<()> {
     match res {
-        Ok(()) => say(rt, "ok"),
-        Err(decline) => declined(rt, decline),
-    }
-}
-
-fn open_water(
-    rt: &HostRuntime,
-    board: &mut Board,
-    filtered: bool,
-    meters: u32,
-) -> anyhow::Result<()> {
-    match WaterLine::new(meters as usize) {
-        Ok(line) => {
-            if filtered {
-                board.open(&ReachFilter::new(line));
-            } else {
-                board.open(&line);
-            }
-            say(rt, "ok")
-        }
+        Ok(answer) => println!(rt; "{answer}")?,
         Err(fault) => {
-            let number = fault.number();
+            let number: u8 = fault.into();
             println!(rt; "declined {number}")?;
-            Ok(())
         }
+    }
+    Ok(())
+}
+
+fn done<E: Into<u8>>(rt: &HostRuntime, res: Result<(), E>) -> anyhow::Result<()> {
+    tell(rt, res.map(|()| "ok"))
+}
+
+fn puzzled(rt: &HostRuntime) -> anyhow::Result<()> {
+    println!(rt; "?")?;
+    Ok(())
+}
+
+fn tell_fault(rt: &HostRuntime, fault: &SheetFault) -> anyhow::Result<()> {
+    let mut line = [0; 64];
+    match write_fault(fault, &mut line) {
+        Ok(n) => Ok(rt.stdout().write_all(&line[..n])?),
+        Err(_) => Err(anyhow!("the fault line has no room")),
     }
 }
 
-// Opens what the bytes of a sheet state, or says their fault line.
-fn open_bytes(
-    rt: &HostRuntime,
-    board: &mut Board,
-    filtered: bool,
-    bytes: &[u8],
-) -> anyhow::Result<()> {
-    let mut problem = SheetProblem::empty();
-    match read(bytes, &mut problem) {
-        Ok(()) => {
-            if filtered {
-                board.open(&ReachFilter::new(problem));
-            } else {
-                board.open(&problem);
-            }
-            say(rt, "ok")
-        }
-        Err(fault) => {
-            let mut line = [0u8; 64];
-            match write_fault(&fault, &mut line) {
-                Ok(n) if n <= 64 => Ok(rt.stdout().write_all(&line[0..n])?),
-                _ => Err(anyhow!("the fault line has no room")),
-            }
-        }
-    }
-}
-
+// Opens what the sheet of a file states, or says its fault line.
 fn open_sheet(
     rt: &HostRuntime,
     board: &mut Board,
@@ -137,87 +127,47 @@ fn open_sheet(
     file: &[u8],
 ) -> anyhow::Result<()> {
     let Ok(path) = from_utf8(file) else {
-        return say(rt, "?");
+        return puzzled(rt);
     };
-    match fs::read(rt, path) {
-        Ok(bytes) => open_bytes(rt, board, filtered, &bytes),
-        Err(_) => say(rt, "?"),
+    let Ok(bytes) = fs::read(rt, path) else {
+        return puzzled(rt);
+    };
+    match board.open_bytes(filtered, &bytes) {
+        Ok(()) => Ok(println!(rt; "ok")?),
+        Err(fault) => tell_fault(rt, &fault),
     }
 }
 
-fn say_outcome(rt: &HostRuntime, res: Result<Outcome, Decline>) -> anyhow::Result<()> {
-    match res {
-        Ok(Outcome::NotYet) => say(rt, "not yet"),
-        Ok(Outcome::Plan) => say(rt, "plan"),
-        Ok(Outcome::NoPlan) => say(rt, "none"),
-        Err(decline) => declined(rt, decline),
-    }
-}
-
-fn say_forced(rt: &HostRuntime, res: Result<Forced, Decline>) -> anyhow::Result<()> {
-    match res {
-        Ok(Forced::Undecided) => say(rt, "undecided"),
-        Ok(Forced::Taken) => say(rt, "taken"),
-        Ok(Forced::LeftOut) => say(rt, "left out"),
-        Ok(Forced::Contradiction) => say(rt, "contradiction"),
-        Err(decline) => declined(rt, decline),
-    }
-}
-
-fn say_entry(rt: &HostRuntime, res: Result<Option<Entry>, Decline>) -> anyhow::Result<()> {
-    match res {
-        Ok(Some(entry)) => {
-            let time = entry.cell.time;
-            let step = entry.cell.step;
-            match entry.side {
-                Side::LeftOut => println!(rt; "{time} {step} left out")?,
-                Side::Taken => println!(rt; "{time} {step} taken")?,
-            }
-            Ok(())
-        }
-        Ok(None) => say(rt, "no entry"),
-        Err(decline) => declined(rt, decline),
-    }
-}
-
-fn say_report(rt: &HostRuntime, board: &Board) -> anyhow::Result<()> {
-    let mut card = [0u8; CARD];
+fn report(rt: &HostRuntime, board: &Board) -> anyhow::Result<()> {
+    let mut card = [0; CARD];
     match board.planner.report(&mut card) {
-        Ok(n) if n <= CARD => Ok(rt.stdout().write_all(&card[0..n])?),
+        Ok(n) if n <= CARD => Ok(rt.stdout().write_all(&card[..n])?),
         Ok(_) => Err(anyhow!("the card has no room")),
-        Err(decline) => declined(rt, decline),
-    }
-}
-
-fn say_kept(rt: &HostRuntime, res: Result<bool, Decline>) -> anyhow::Result<()> {
-    match res {
-        Ok(true) => say(rt, "kept"),
-        Ok(false) => say(rt, "not kept"),
-        Err(decline) => declined(rt, decline),
+        Err(decline) => done(rt, Err(decline)),
     }
 }
 
 // Answers one command.
 fn carry_out(rt: &HostRuntime, board: &mut Board, command: Command) -> anyhow::Result<()> {
+    let planner = &mut board.planner;
     match command {
         Command::Open { filtered, source } => match source {
             SourceName::Sheet(file) => open_sheet(rt, board, filtered, file),
-            SourceName::Water(meters) => open_water(rt, board, filtered, meters),
+            SourceName::Water(meters) => done(rt, board.open_water(filtered, meters)),
         },
         Command::Ask { times, ranking } => done(rt, board.ask(times, ranking)),
         Command::Pin { time, step, taken } => {
-            done(rt, board.planner.pin(time as usize, step as usize, taken))
+            done(rt, planner.pin(time as usize, step as usize, taken))
         }
-        Command::Unpin { time, step } => {
-            done(rt, board.planner.unpin(time as usize, step as usize))
+        Command::Unpin { time, step } => done(rt, planner.unpin(time as usize, step as usize)),
+        Command::Run { choices } => tell(rt, planner.run(choices)),
+        Command::Forced { time, step } => tell(rt, planner.forced(time as usize, step as usize)),
+        Command::Path { place } => tell(rt, planner.path(place as usize).map(AtPlace)),
+        Command::Report => report(rt, board),
+        Command::Kept { one, other } => {
+            let kept = board.kept(one, other);
+            tell(rt, kept.map(|kept| if kept { "kept" } else { "not kept" }))
         }
-        Command::Run { choices } => say_outcome(rt, board.planner.run(choices)),
-        Command::Forced { time, step } => {
-            say_forced(rt, board.planner.forced(time as usize, step as usize))
-        }
-        Command::Path { place } => say_entry(rt, board.planner.path(place as usize)),
-        Command::Report => say_report(rt, board),
-        Command::Kept { one, other } => say_kept(rt, board.kept(one, other)),
     }
 }
 
@@ -225,6 +175,6 @@ fn carry_out(rt: &HostRuntime, board: &mut Board, command: Command) -> anyhow::R
 pub(crate) fn answer(rt: &HostRuntime, board: &mut Board, line: &[u8]) -> anyhow::Result<()> {
     match parse(line) {
         Some(command) => carry_out(rt, board, command),
-        None => say(rt, "?"),
+        None => puzzled(rt),
     }
 }

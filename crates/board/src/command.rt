@@ -56,28 +56,35 @@ pub enum Word {
     Kept,
 }
 
-// How a first word is spelled, with its blank.
-fn bytes_of(word: Word) -> &'static [u8]
-    ensures { result.now ≡ spelled word }
-{
-    match word {
-        Word::Open => b"open ",
-        Word::Ask => b"ask ",
-        Word::Pin => b"pin ",
-        Word::Unpin => b"unpin ",
-        Word::Run => b"run ",
-        Word::Forced => b"forced ",
-        Word::Path => b"path ",
-        Word::Report => b"report",
-        Word::Kept => b"kept ",
-    }
-}
+impl Word {
+    const ALL: [Word; 9] = [
+        Word::Open,
+        Word::Ask,
+        Word::Pin,
+        Word::Unpin,
+        Word::Run,
+        Word::Forced,
+        Word::Path,
+        Word::Report,
+        Word::Kept,
+    ];
 
-// What follows this word, where the line begins with it.
-fn headed_by<'a>(line: &'a [u8], word: Word) -> Option<&'a [u8]>
-    ensures { MatchOption result ((f : List ℕ) → line.now ≢ headed word f) (λ x. line.now ≡ headed word x.now) }
-{
-    after(line, bytes_of(word))
+    // How it is spelled, with its blank.
+    fn bytes(self) -> &'static [u8]
+        ensures { result.now ≡ spelled self }
+    {
+        match self {
+            Word::Open => b"open ",
+            Word::Ask => b"ask ",
+            Word::Pin => b"pin ",
+            Word::Unpin => b"unpin ",
+            Word::Run => b"run ",
+            Word::Forced => b"forced ",
+            Word::Path => b"path ",
+            Word::Report => b"report",
+            Word::Kept => b"kept ",
+        }
+    }
 }
 
 // The command of this first word with these fields.
@@ -86,41 +93,16 @@ fn with_fields<'a>(word: Word, fields: &'a [u8]) -> Option<Command<'a>>
 {
     match word {
         Word::Open => {
-            let (filtered, source) = opening(fields)?;
-            Some(Command::Open { filtered, source })
+            opening(fields).map(|(filtered, source)| Command::Open { filtered, source })
         }
-        Word::Ask => {
-            let (times, ranking) = asking(fields)?;
-            Some(Command::Ask { times, ranking })
-        }
-        Word::Pin => {
-            let (time, step, taken) = pinning(fields)?;
-            Some(Command::Pin { time, step, taken })
-        }
-        Word::Unpin => {
-            let (time, step) = numbers(fields)?;
-            Some(Command::Unpin { time, step })
-        }
-        Word::Run => {
-            let choices = number(fields)?;
-            Some(Command::Run { choices })
-        }
-        Word::Forced => {
-            let (time, step) = numbers(fields)?;
-            Some(Command::Forced { time, step })
-        }
-        Word::Path => {
-            let place = number(fields)?;
-            Some(Command::Path { place })
-        }
-        Word::Report => match fields {
-            [] => Some(Command::Report),
-            _ => None,
-        },
-        Word::Kept => {
-            let (one, other) = numbers(fields)?;
-            Some(Command::Kept { one, other })
-        }
+        Word::Ask => asking(fields).map(|(times, ranking)| Command::Ask { times, ranking }),
+        Word::Pin => pinning(fields).map(|(time, step, taken)| Command::Pin { time, step, taken }),
+        Word::Unpin => numbers(fields).map(|(time, step)| Command::Unpin { time, step }),
+        Word::Run => number(fields).map(|choices| Command::Run { choices }),
+        Word::Forced => numbers(fields).map(|(time, step)| Command::Forced { time, step }),
+        Word::Path => number(fields).map(|place| Command::Path { place }),
+        Word::Report => fields.is_empty().then_some(Command::Report),
+        Word::Kept => numbers(fields).map(|(one, other)| Command::Kept { one, other }),
     }
 }
 
@@ -128,32 +110,18 @@ fn with_fields<'a>(word: Word, fields: &'a [u8]) -> Option<Command<'a>>
 fn command_of<'a>(line: &'a [u8], word: Word) -> Option<Command<'a>>
     ensures { MatchOption result ((c : Command) → Begins c word line.now → ⊥) (λ c. Begins c word line.now) }
 {
-    let fields = headed_by(line, word)?;
+    let fields = after(line, word.bytes())?;
     with_fields(word, fields)
-}
-
-// The word that a line could begin with, by its first two bytes.
-fn likely(line: &[u8]) -> Word
-    ensures { (w : Word) (f : List ℕ) → line.now ≡ headed w f → result ≡ w }
-{
-    match line {
-        [b'o', ..] => Word::Open,
-        [b'a', ..] => Word::Ask,
-        [b'u', ..] => Word::Unpin,
-        [b'f', ..] => Word::Forced,
-        [b'k', ..] => Word::Kept,
-        [b'p', b'i', ..] => Word::Pin,
-        [b'p', ..] => Word::Path,
-        [b'r', b'u', ..] => Word::Run,
-        _ => Word::Report,
-    }
 }
 
 // The command that a line spells, if it spells one.
 pub fn parse<'a>(line: &'a [u8]) -> Option<Command<'a>>
     ensures { MatchOption result ((c : Command) → Spells c line.now → ⊥) (λ c. Spells c line.now) }
 {
-    let word = likely(line);
-    let command = command_of(line, word)?;
-    Some(command)
+    for word in &Word::ALL {
+        if let Some(command) = command_of(line, *word) {
+            return Some(command);
+        }
+    }
+    None
 }

@@ -4,9 +4,6 @@ ghost use Rattle.board.specs.declared.field.RankingName.{RankingName};
 ghost use Rattle.board.specs.declared.field.SourceName.{SourceName};
 ghost use Rattle.board.specs.Fields.{Number, Numbers, NoBlank, Asks, Sided, Pins, SourceIs, Opens, ranking_word, side_word};
 
-// The largest number that a field stands for; a larger one is as good as this, since no call takes it.
-const LARGEST: u64 = 4294967295;
-
 #[derive(Clone, Copy)]
 pub enum RankingName {
     Forward,
@@ -20,32 +17,28 @@ pub enum SourceName<'a> {
     Water(u32),
 }
 
-// A number with one more digit at its end.
+// A number with one more digit at its end. A number beyond the largest is as good as the largest, since no call takes either.
 fn further(n: u32, digit: u8) -> u32
     requires { digit < 10 }
     ensures small { n * 10 + digit ≤ 4294967295 → result ≡ n * 10 + digit }
     ensures large { 4294967295 < n * 10 + digit → result ≡ 4294967295 }
 {
-    let more = u64::from(n) * 10 + u64::from(digit);
-    if more > LARGEST {
-        return 4294967295;
-    }
-    more as u32
+    n.saturating_mul(10).saturating_add(u32::from(digit))
 }
 
 // One or more digits.
 pub(crate) fn number(s: &[u8]) -> Option<u32>
     ensures { MatchOption result ((n : ℕ) → Number s.now n → ⊥) (λ n. Number s.now n) }
 {
-    if s.len() == 0 {
+    if s.is_empty() {
         return None;
     }
     let mut n = 0;
     for b in s {
-        if *b < 48 || *b > 57 {
+        let b'0'..=b'9' = *b else {
             return None;
-        }
-        n = further(n, *b - 48);
+        };
+        n = further(n, *b - b'0');
     }
     Some(n)
 }
@@ -54,27 +47,15 @@ pub(crate) fn number(s: &[u8]) -> Option<u32>
 pub(crate) fn after<'a>(s: &'a [u8], word: &[u8]) -> Option<&'a [u8]>
     ensures { MatchOption result ((f : List ℕ) → s.now ≢ word.now ++ f) (λ x. s.now ≡ word.now ++ x.now) }
 {
-    if s.len() < word.len() {
-        return None;
-    }
-    for i in 0..word.len() {
-        if s[i] != word[i] {
-            return None;
-        }
-    }
-    Some(&s[word.len()..])
+    s.strip_prefix(word)
 }
 
 // What stands before the first blank, and what after it.
 pub(crate) fn cut<'a>(s: &'a [u8]) -> Option<(&'a [u8], &'a [u8])>
     ensures { MatchOption result (NoBlank s.now) (λ x. NoBlank x.0.now × (s.now ≡ x.0.now ++ 32 ∷ x.1.now)) }
 {
-    for (i, b) in s.iter().enumerate() {
-        if *b == 32 {
-            return Some((&s[..i], &s[i + 1..]));
-        }
-    }
-    None
+    let at = s.iter().position(|b| *b == b' ')?;
+    Some((&s[..at], &s[at + 1..]))
 }
 
 // Two numbers with a blank between.
@@ -89,8 +70,8 @@ pub(crate) fn ranking(s: &[u8]) -> Option<RankingName>
     ensures { MatchOption result ((x : RankingName) → s.now ≢ ranking_word x) (λ x. s.now ≡ ranking_word x) }
 {
     match s {
-        [b'f', b'o', b'r', b'w', b'a', b'r', b'd'] => Some(RankingName::Forward),
-        [b'b', b'y', b'-', b's', b't', b'e', b'p'] => Some(RankingName::ByStep),
+        b"forward" => Some(RankingName::Forward),
+        b"by-step" => Some(RankingName::ByStep),
         _ => None,
     }
 }
@@ -108,8 +89,8 @@ pub(crate) fn side(s: &[u8]) -> Option<bool>
     ensures { MatchOption result ((taken : Bool) → s.now ≢ side_word taken) (λ taken. s.now ≡ side_word taken) }
 {
     match s {
-        [b't', b'a', b'k', b'e', b'n'] => Some(true),
-        [b'o', b'u', b't'] => Some(false),
+        b"taken" => Some(true),
+        b"out" => Some(false),
         _ => None,
     }
 }
@@ -147,10 +128,8 @@ pub(crate) fn source<'a>(s: &'a [u8]) -> Option<SourceName<'a>>
 pub(crate) fn opening<'a>(s: &'a [u8]) -> Option<(bool, SourceName<'a>)>
     ensures { MatchOption result ((b : Bool) (x : SourceName) → Opens b x s.now → ⊥) (λ x. Opens x.0 x.1 s.now) }
 {
-    if let Some(rest) = after(s, b"reach ") {
-        let filtered = source(rest)?;
-        return Some((true, filtered));
+    match after(s, b"reach ") {
+        Some(rest) => Some((true, source(rest)?)),
+        None => Some((false, source(s)?)),
     }
-    let plain = source(s)?;
-    Some((false, plain))
 }

@@ -8,7 +8,6 @@ use std::io::{BufRead, BufReader};
 mod answer;
 mod command;
 mod field;
-mod number;
 
 fn run(rt: &HostRuntime, heap: Global) -> anyhow::Result<()> {
     let mut board = Box::new(heap, Board::new())?;

@@ -9,119 +9,69 @@ mod tests {
     use sources::water::WaterLine;
     use std::test::Fail;
 
-    fn line(meters: usize) -> Result<WaterLine, Fail> {
-        match WaterLine::new(meters) {
-            Ok(line) => Ok(line),
-            Err(_) => Err(Fail::new("no line")),
-        }
-    }
-
-    fn declines<T: Drop>(r: Result<T, Decline>, by: Decline) -> Result<(), Fail> {
-        match r {
-            Ok(_) => Err(Fail::new("not declined")),
-            Err(e) => {
-                if e == by {
-                    Ok(())
-                } else {
-                    Err(Fail::new("declined with another number"))
-                }
-            }
-        }
-    }
-
-    fn done<T: Drop>(r: Result<T, Decline>) -> Result<(), Fail> {
-        match r {
-            Ok(_) => Ok(()),
-            Err(_) => Err(Fail::new("declined")),
-        }
-    }
-
-    fn says(r: Result<Outcome, Decline>, outcome: Outcome) -> Result<(), Fail> {
-        match r {
-            Ok(o) => {
-                if o == outcome {
-                    Ok(())
-                } else {
-                    Err(Fail::new("another outcome"))
-                }
-            }
-            Err(_) => Err(Fail::new("declined")),
-        }
-    }
-
     // Each refusal with its number's reason, smallest first.
     #[test]
-    fn refusals() -> Result<(), Fail> {
+    fn refusals(rt: HostRuntime) -> Result<(), Fail> {
         let mut planner = Planner::new();
-        declines(planner.run(0), Decline::Unopened)?;
-        declines(planner.ask(33, &Forward), Decline::Unopened)?;
-        planner.open(&line(1)?);
-        declines(planner.pin(9, 99, true), Decline::Unasked)?;
-        declines(planner.ask(33, &Forward), Decline::TooLong)?;
-        done(planner.ask(6, &Forward))?;
-        declines(planner.pin(6, 0, true), Decline::OutOfRange)?;
-        declines(planner.pin(0, 9, true), Decline::OutOfRange)?;
-        declines(planner.unpin(0, 0), Decline::Unpinned)?;
-        done(planner.pin(0, 0, false))?;
-        declines(planner.pin(0, 0, true), Decline::Pinned)?;
-        declines(planner.run(0), Decline::Grant)?;
-        declines(planner.run(1000001), Decline::Grant)?;
-        declines(planner.report(&mut [0; 7]), Decline::TooShort)
+        assert_eq!(rt; planner.run(0), Err(Decline::Unopened));
+        assert_eq!(rt; planner.ask(33, &Forward), Err(Decline::Unopened));
+        planner.open(&WaterLine::new(1)?);
+        assert_eq!(rt; planner.pin(9, 99, true), Err(Decline::Unasked));
+        assert_eq!(rt; planner.ask(33, &Forward), Err(Decline::TooLong));
+        planner.ask(6, &Forward)?;
+        assert_eq!(rt; planner.pin(6, 0, true), Err(Decline::OutOfRange));
+        assert_eq!(rt; planner.pin(0, 9, true), Err(Decline::OutOfRange));
+        assert_eq!(rt; planner.unpin(0, 0), Err(Decline::Unpinned));
+        planner.pin(0, 0, false)?;
+        assert_eq!(rt; planner.pin(0, 0, true), Err(Decline::Pinned));
+        assert_eq!(rt; planner.run(0), Err(Decline::Grant));
+        assert_eq!(rt; planner.run(1000001), Err(Decline::Grant));
+        assert_eq!(rt; planner.report(&mut [0; 7]), Err(Decline::TooShort));
+        Ok(())
     }
 
     // Length 5 is too short for one meter; at 6 a pin may demand another plan, or rule out all.
     #[test]
-    fn pinned() -> Result<(), Fail> {
+    fn pinned(rt: HostRuntime) -> Result<(), Fail> {
         let mut planner = Planner::new();
-        planner.open(&line(1)?);
-        done(planner.ask(5, &ByStep))?;
-        says(planner.run(1000000), Outcome::NoPlan)?;
-        done(planner.ask(6, &ByStep))?;
-        says(planner.run(1000000), Outcome::Plan)?;
-        says(planner.run(1), Outcome::Plan)?;
-        done(planner.pin(0, 2, false))?;
-        says(planner.run(1000000), Outcome::NoPlan)?;
-        done(planner.unpin(0, 2))?;
-        says(planner.run(1000000), Outcome::Plan)
-    }
-
-    fn tells(r: Result<Forced, Decline>, forced: Forced) -> Result<(), Fail> {
-        match r {
-            Ok(f) => {
-                if f == forced {
-                    Ok(())
-                } else {
-                    Err(Fail::new("another answer"))
-                }
-            }
-            Err(_) => Err(Fail::new("declined")),
-        }
+        planner.open(&WaterLine::new(1)?);
+        planner.ask(5, &ByStep)?;
+        assert_eq!(rt; planner.run(1000000), Ok(Outcome::NoPlan));
+        planner.ask(6, &ByStep)?;
+        assert_eq!(rt; planner.run(1000000), Ok(Outcome::Plan));
+        assert_eq!(rt; planner.run(1), Ok(Outcome::Plan));
+        planner.pin(0, 2, false)?;
+        assert_eq!(rt; planner.run(1000000), Ok(Outcome::NoPlan));
+        planner.unpin(0, 2)?;
+        assert_eq!(rt; planner.run(1000000), Ok(Outcome::Plan));
+        Ok(())
     }
 
     // What the pins force of cells, before and after a pin that rules every plan out, and without a look at what a run found.
     #[test]
-    fn forced_cells() -> Result<(), Fail> {
+    fn forced_cells(rt: HostRuntime) -> Result<(), Fail> {
         let mut planner = Planner::new();
-        planner.open(&line(1)?);
-        declines(planner.forced(0, 0), Decline::Unasked)?;
-        done(planner.ask(6, &Forward))?;
-        declines(planner.forced(6, 0), Decline::OutOfRange)?;
-        says(planner.run(1000000), Outcome::Plan)?;
-        tells(planner.forced(0, 2), Forced::Taken)?;
-        tells(planner.forced(0, 1), Forced::LeftOut)?;
-        tells(planner.forced(0, 0), Forced::Undecided)?;
-        tells(planner.forced(1, 0), Forced::Undecided)?;
-        done(planner.pin(0, 0, false))?;
-        tells(planner.forced(1, 0), Forced::Taken)?;
-        done(planner.pin(0, 2, false))?;
-        tells(planner.forced(5, 8), Forced::Contradiction)
+        planner.open(&WaterLine::new(1)?);
+        assert_eq!(rt; planner.forced(0, 0), Err(Decline::Unasked));
+        planner.ask(6, &Forward)?;
+        assert_eq!(rt; planner.forced(6, 0), Err(Decline::OutOfRange));
+        assert_eq!(rt; planner.run(1000000), Ok(Outcome::Plan));
+        assert_eq!(rt; planner.forced(0, 2), Ok(Forced::Taken));
+        assert_eq!(rt; planner.forced(0, 1), Ok(Forced::LeftOut));
+        assert_eq!(rt; planner.forced(0, 0), Ok(Forced::Undecided));
+        assert_eq!(rt; planner.forced(1, 0), Ok(Forced::Undecided));
+        planner.pin(0, 0, false)?;
+        assert_eq!(rt; planner.forced(1, 0), Ok(Forced::Taken));
+        planner.pin(0, 2, false)?;
+        assert_eq!(rt; planner.forced(5, 8), Ok(Forced::Contradiction));
+        Ok(())
     }
 
     // A list of calls, carried out as far as there are places for answers.
     #[test]
     fn a_list(rt: HostRuntime) -> Result<(), Fail> {
         let mut planner = Planner::new();
-        let water = line(1)?;
+        let water = WaterLine::new(1)?;
         let calls = [
             Call::Open,
             Call::Ask { length: 6 },

@@ -19,18 +19,16 @@ pub struct WaterLine {
 }
 
 // Why no line was made.
-#[derive(Clone, Copy)]
+#[derive(Clone, Copy, PartialEq, Eq, Debug)]
 pub enum MetersFault {
-    NotOneToEight,
+    NotOneToEight = 31,
 }
 
-impl MetersFault {
-    pub fn number(self) -> u8
-        ensures { result ≡ number_of self }
-    {
-        match self {
-            MetersFault::NotOneToEight => 31,
-        }
+impl From<MetersFault> for u8 {
+    ghost from_gives = { λ e n. n ≡ number_of e };
+
+    fn from(fault: MetersFault) -> u8 {
+        fault as u8
     }
 }
 

@@ -1,9 +1,9 @@
-use Rattle.board.proofs.Words.{spells_begins, begins_spells}
+use Rattle.std.proofs.Common.{below_more}
+use Rattle.board.proofs.Words.{none_spelled}
 use Rattle.board.proofs.command.parse.Goals as goal
 
-pub returns-in_err-command : goal.returns-in_err-command
-returns-in_err-command c =
-    rw c.from_residual.ensures (λ x p. c.in_err-command.ensures x (spells_begins x _ _ c.likely-word.ensures p))
+pub loop-word-preserved : goal.loop-word-preserved
+loop-word-preserved c = below_more _ _ c.loop-word.invariant c.in_default.ensures
 
 pub returns : goal.returns
-returns c = begins_spells _ _ _ c.in_ok-command.ensures
+returns c = none_spelled _ _ c.loop-word-test.false c.loop-word.invariant

@@ -19,4 +19,4 @@ pub returns : goal.returns
 returns c =
     let t = ap (digits_value 10) (take_all c.loop-b.b-index c.args.s.now (omega arith)) in
     let s = subst (λ k. Stands k c.loop-b.n) t c.loop-b.invariant.1 in
-    record { some = omega arith; digits = λ i h. c.loop-b.invariant.0 i (omega arith); small = s.0; large = s.1 }
+    record { some = search rules; digits = λ i h. c.loop-b.invariant.0 i (omega arith); small = s.0; large = s.1 }
