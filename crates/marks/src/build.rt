@@ -8,7 +8,8 @@ ghost use Rattle.marks.specs.Building.{Small, Columned, Gathered, RivalsOf, Clos
 ghost use Rattle.marks.specs.Meaning.{Means, clauses_of};
 
 use crate::index::Index;
-use crate::put::{enter, opposite_literal};
+use crate::mark::opposite_literal;
+use crate::put::enter;
 use model::source::ProblemSource;
 use model::table::ProblemTable;
 use sets::facts::{FactSet, LiteralSet};

@@ -5,8 +5,7 @@ ghost use Rattle.marks.specs.Grows.{on, Ranged, Added};
 ghost use Rattle.marks.specs.Rules.{On, Concluded};
 
 use crate::index::Index;
-use crate::mark::Mark;
-use crate::put::opposite_literal;
+use crate::mark::{Mark, opposite_literal};
 use crate::tables::Marks;
 
 impl Marks {

@@ -6,8 +6,7 @@ ghost use Rattle.marks.specs.Grows.{on, Has, Ranged, Added};
 ghost use Rattle.marks.specs.Rules.{On, Follows, Maker, Needer, Worked, Covers, CoversTaken, CoversLeft, CoversFact, Settled, Good, Rest};
 
 use crate::index::Index;
-use crate::mark::Mark;
-use crate::put::opposite_literal;
+use crate::mark::{Mark, opposite_literal};
 use crate::tables::Marks;
 use sets::facts::LiteralSet;
 

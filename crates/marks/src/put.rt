@@ -1,32 +1,14 @@
-// One mark: its opposite, whether it is on, and putting it in.
+// One mark: whether it is on, and putting it in.
 ghost use Rattle.std.specs.Prelude.{◌≡◌, ℕ, ◌<◌, Bool, true, false, ◌&&◌, ◌||◌, length, ◌==◌, slice_index_or};
 ghost use Rattle.sets.specs.Sets.{step_in, no_literals, no_steps};
-ghost use Rattle.marks.specs.Tables.{number_in, opp, opp_lit};
+ghost use Rattle.marks.specs.Tables.{number_in, opp};
 ghost use Rattle.marks.specs.Grows.{on, Ranged, Put, Added};
 
 use crate::mark::Mark;
 use crate::tables::Marks;
-use sets::facts::{LiteralSet, flip};
+use sets::facts::LiteralSet;
 use sets::stack::Stack;
 use sets::steps::StepSet;
-
-// The mark that contradicts `x`.
-pub fn opposite(x: Mark) -> Mark
-    ensures { result ≡ opp x }
-{
-    match x {
-        Mark::Fact(t, l) => Mark::Fact(t, opposite_literal(l)),
-        Mark::Taken(t, o) => Mark::LeftOut(t, o),
-        Mark::LeftOut(t, o) => Mark::Taken(t, o),
-    }
-}
-
-// The number of the opposite literal.
-pub fn opposite_literal(l: u8) -> u8
-    ensures { result ≡ opp_lit l }
-{
-    flip(l as usize) as u8
-}
 
 // Puts step `i` into the set at `t`.
 pub(crate) fn enter(table: &mut [StepSet], t: usize, i: u8)
@@ -67,7 +49,7 @@ impl Marks {
         if self.is_on(x) {
             return;
         }
-        if self.is_on(opposite(x)) {
+        if self.is_on(x.opposite()) {
             self.conflict = true;
             return;
         }
