@@ -38,7 +38,7 @@ impl Marks {
         requires after { turns_true ≡ on self.old (Mark.Fact (t + 1) l) }
         ensures { Added self.old (Concluded ix.now (On self.old) t l) self.new }
     {
-        let rest = ix.makers[l as usize].minus(self.left[t]);
+        let rest = ix.makers[l as usize].minus(self.marked.cells.left[t]);
         if rest.is_empty() {
             self.add_if(was_false, Mark::Fact(t as u8 + 1, opposite_literal(l)));
             self.add_if(turns_true, Mark::Fact(t as u8, l));

@@ -1,11 +1,16 @@
 // One mark: whether it is on, and putting it in.
 ghost use Rattle.std.specs.Prelude.{◌≡◌, ℕ, ◌<◌, Bool, true, false, ◌&&◌, ◌||◌, length, ◌==◌, slice_index_or};
 ghost use Rattle.sets.specs.Sets.{step_in, no_literals, no_steps};
-ghost use Rattle.marks.specs.Tables.{number_in, opp};
+ghost use Rattle.marks.specs.declared.mark.Mark.{Mark as AMark};
+ghost use Rattle.marks.specs.Tables.{number_in, marked_in, opp, ranged, same};
 ghost use Rattle.marks.specs.Grows.{on, Ranged, Put, Added};
 
+use crate::cells::CellSides;
 use crate::mark::Mark;
+use crate::marked::Marked;
 use crate::tables::Marks;
+use model::cell::Cell;
+use model::path::Side;
 use sets::facts::LiteralSet;
 use sets::stack::Stack;
 use sets::steps::StepSet;
@@ -29,16 +34,47 @@ fn enter_literal(table: &mut [LiteralSet], t: usize, l: usize)
     table[t] = set;
 }
 
+impl Marked {
+    // Nothing is marked.
+    pub(crate) fn none() -> Marked
+        ensures { (x : AMark) → marked_in result x ≡ false }
+    {
+        Marked {
+            facts: [LiteralSet::empty(); 33],
+            cells: CellSides::none(),
+        }
+    }
+
+    // Whether the mark is on; one beyond the tables is not.
+    pub(crate) fn has(&self, x: Mark) -> bool
+        ensures { result ≡ marked_in self.now x }
+    {
+        match x {
+            Mark::Fact(t, l) => t < 33 && self.facts[t as usize].contains(l as usize),
+            Mark::Taken(time, step) => self.cells.has(Cell { time, step }, Side::Taken),
+            Mark::LeftOut(time, step) => self.cells.has(Cell { time, step }, Side::LeftOut),
+        }
+    }
+
+    // Puts the mark in.
+    fn enter(&mut self, x: Mark)
+        requires { ranged 32 x ≡ true }
+        ensures { (y : AMark) → marked_in self.new y ≡ (same x y || marked_in self.old y) }
+    {
+        match x {
+            Mark::Fact(t, l) => enter_literal(&mut self.facts, t as usize, l as usize),
+            Mark::Taken(time, step) => self.cells.enter(Cell { time, step }, Side::Taken),
+            Mark::LeftOut(time, step) => self.cells.enter(Cell { time, step }, Side::LeftOut),
+        }
+    }
+}
+
 impl Marks {
     // Whether the mark is on; one beyond the tables is not.
     pub fn is_on(&self, x: Mark) -> bool
         ensures { result ≡ on self.now x }
     {
-        match x {
-            Mark::Fact(t, l) => t < 33 && self.facts[t as usize].contains(l as usize),
-            Mark::Taken(t, o) => t < 32 && self.taken[t as usize].contains(o),
-            Mark::LeftOut(t, o) => t < 32 && self.left[t as usize].contains(o),
-        }
+        self.marked.has(x)
     }
 
     // Puts one mark in; where the opposite is on, the marks contradict.
@@ -66,10 +102,6 @@ impl Marks {
         let mut trail = Stack::resume(&mut self.trail, self.len);
         trail.push(x);
         self.len = trail.len();
-        match x {
-            Mark::Fact(t, l) => enter_literal(&mut self.facts, t as usize, l as usize),
-            Mark::Taken(t, o) => enter(&mut self.taken, t as usize, o),
-            Mark::LeftOut(t, o) => enter(&mut self.left, t as usize, o),
-        }
+        self.marked.enter(x);
     }
 }
