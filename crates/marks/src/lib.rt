@@ -7,6 +7,7 @@ pub mod cells;
 pub mod check;
 pub mod decide;
 pub mod index;
+mod literal;
 pub mod mark;
 pub mod marked;
 pub mod pinned;
