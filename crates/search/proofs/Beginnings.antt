@@ -1,5 +1,5 @@
 -- A search as it begins. Assumes nothing.
-use Rattle.std.proofs.Common.{◌≡◌, ℕ, ◌*◌, ◌<◌, ◌≤◌, true, ◌&&◌, ltb, leb, ◌⊎◌, List, get_or, sym, ◌∙◌, subst, inl, inr, ⊎_elim, zero-mul, arith}
+use Rattle.std.proofs.Common.{◌≡◌, ℕ, ◌*◌, ◌<◌, ◌≤◌, true, ◌&&◌, ltb, leb, ◌⊎◌, List, get_or, sym, ◌∙◌, subst, inl, inr, ⊎_elim, zero-mul, arith, Option}
 use mathlib.Core.Logic.{∥∥₁_map, ∥∥₁_elim}
 use native.Mathlib.Bridge.{le_prop}
 use Rattle.sets.specs.Literals.{Literal, lit, code}
@@ -16,7 +16,7 @@ use Rattle.model.specs.Firsts.{Ordered}
 use Rattle.model.specs.Rankings.{ranked}
 use Rattle.marks.specs.declared.tables.Marks.{Marks}
 use Rattle.marks.specs.declared.index.Index.{Index}
-use Rattle.marks.specs.declared.cells.CellMarks.{CellMarks}
+use Rattle.marks.specs.declared.cells.CellSides.{CellSides}
 use Rattle.marks.specs.Pinning.{with_pin, pins_of}
 use Rattle.clauses.specs.Waiting.{kept_in}
 use Rattle.search.specs.declared.tables.Search.{Search}
@@ -90,7 +90,7 @@ range_with pins new T m c pin inside r w t o h = ⊎_elim
     (cases_Bool (ltb c.time 32 && is_cell c t o))
 
 -- the search at the beginning
-pub begins : (t : ProblemTable) (V : Clauses) (ix : Index) (T : ℕ) (order : List Cell) (pins : Pins) (root : CellMarks) (m : Marks) (ls : List Level)
+pub begins : (t : ProblemTable) (V : Clauses) (ix : Index) (T : ℕ) (order : List Cell) (pins : Pins) (root : Option CellSides) (m : Marks) (ls : List Level)
     → Largest (problem_of t) V → Means ix (problem_of t) V → Ordered T (steps (problem_of t)) (places_in order) → InRange pins T (steps (problem_of t))
     → Begun ix pins T m → CellsOf m root → ∥ Sound (problem_of t) V ix T order pins root m ls 0 ∥₁
 begins t V ix T order pins root m ls largest means ordered range b k =
@@ -98,14 +98,14 @@ begins t V ix T order pins root m ls largest means ordered range b k =
 
 -- what a search keeps of its problem, as it begins anew
 module _ (s : Search) where
-  pub begins_anew : (pins : Pins) (root : CellMarks) (m : Marks) → InRange pins s.length (steps (problem_of s.problem))
+  pub begins_anew : (pins : Pins) (root : Option CellSides) (m : Marks) → InRange pins s.length (steps (problem_of s.problem))
       → Begun s.index pins s.length m → CellsOf m root
       → ∥ Sound (problem_of s.problem) (kept_in s.clauses) s.index s.length s.order pins root m s.levels 0 ∥₁
   begins_anew pins root m range b k = ∥∥₁_map s.sound
       (λ x. sound_begin (problem_of s.problem) (kept_in s.clauses) s.index s.length s.order pins root m s.levels x.well x.largest x.means x.ordered range
       (m, b.the_length, b.rest, k) b.the_length b.rest)
 
-  pub asks_anew : (T : ℕ) (order : List Cell) (pins : Pins) (root : CellMarks) (m : Marks) → Ordered T (steps (problem_of s.problem)) (places_in order)
+  pub asks_anew : (T : ℕ) (order : List Cell) (pins : Pins) (root : Option CellSides) (m : Marks) → Ordered T (steps (problem_of s.problem)) (places_in order)
       → InRange pins T (steps (problem_of s.problem)) → Begun s.index pins T m → CellsOf m root
       → ∥ Sound (problem_of s.problem) (kept_in s.clauses) s.index T order pins root m s.levels 0 ∥₁
   asks_anew T order pins root m ordered range b k = ∥∥₁_map s.sound

@@ -11,7 +11,7 @@ use crate::begin::work_out;
 use crate::level::Level;
 use crate::tables::Search;
 use clauses::record::ClauseRecord;
-use marks::cells::CellMarks;
+use marks::cells::CellSides;
 use marks::index::Index;
 use marks::pins::Pins;
 use marks::tables::Marks;
@@ -75,7 +75,7 @@ impl Search {
             marks,
             levels: no_levels(),
             depth: 0,
-            plan: CellMarks::none(),
+            plan: CellSides::none(),
         }
     }
 }
