@@ -63,7 +63,7 @@ impl ProblemSource for ProblemTable {
 
     fn step(&self, number: usize) -> Step {
         let rows = &self.steps[..self.count];
-        rows.get(number).copied().unwrap_or_else(Step::closed)
+        rows.get(number).copied().unwrap_or(Step::closed())
     }
 
     fn start(&self) -> FactSet {
