@@ -5,4 +5,3 @@ use Rattle.std.proofs.lemmas.List.{get_or_past, length-take-le}
 -- no row stands beyond the count
 pub row_beyond : {X : Type 0} (xs : List X) (n i : ℕ) (d : X) → n ≤ length xs → n ≤ i → get_or (take n xs) i d ≡ d
 row_beyond xs n i d h k = get_or_past (take n xs) i d (omega (arith, length-take-le n xs h))
-

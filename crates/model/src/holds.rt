@@ -19,7 +19,7 @@ fn copy_steps<S: ProblemSource>(source: &S, table: &mut [Step; 256])
 }
 
 impl ProblemTable {
-    // The problem that a source means.
+    // The problem that a source means. Not a From: the source is only read, and is of any type that is one.
     pub fn of<S: ProblemSource>(source: &S) -> ProblemTable
         ensures { problem_of result ≡ S.meaning source.now }
     {
@@ -62,11 +62,8 @@ impl ProblemSource for ProblemTable {
     }
 
     fn step(&self, number: usize) -> Step {
-        if number < self.count {
-            self.steps[number]
-        } else {
-            Step::closed()
-        }
+        let rows = &self.steps[..self.count];
+        rows.get(number).copied().unwrap_or(Step::closed())
     }
 
     fn start(&self) -> FactSet {

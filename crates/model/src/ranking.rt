@@ -4,6 +4,7 @@ ghost use Rattle.model.specs.Rankings.{Order, Undo, cell_answer, place_answer};
 
 use crate::cell::Cell;
 
+// The times and the steps are not one value: an ask gives the times, and the problem has the steps.
 pub trait Ranking {
     ghost order: { Self → Order };
 

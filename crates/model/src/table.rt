@@ -8,6 +8,7 @@ use sets::facts::{FactSet, LiteralSet};
 #[derive(Drop)]
 pub struct ProblemTable {
     pub(crate) facts: usize,
+    // fixed memory: of the steps' places, the first `count` are the problem's
     pub(crate) count: usize,
     pub(crate) steps: [Step; 256],
     pub(crate) start: FactSet,

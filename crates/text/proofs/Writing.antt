@@ -1,5 +1,5 @@
 -- How what the writer adds joins, and what its two runs give.
-use Rattle.std.proofs.Common.{◌≡◌, ℕ, ◌+◌, ◌/◌, ◌%◌, ◌^◌, ◌<◌, ◌≤◌, ◌-◌, List, [], ◌∷◌, ◌++◌, length, take, drop, decimal, sym, refl, ap, ◌∙◌, subst, append_assoc, arith}
+use Rattle.std.proofs.Common.{◌≡◌, ℕ, ◌+◌, ◌/◌, ◌%◌, ◌^◌, ◌<◌, ◌≤◌, ◌-◌, List, [], ◌∷◌, ◌++◌, length, take, drop, decimal, sym, refl, ap, ◌∙◌, subst, append_assoc, length-append, arith}
 use Rattle.std.proofs.lemmas.Fmt.{decimal_digit, decimal_step}
 use Rattle.std.proofs.lemmas.List.{drop_at, take_at}
 use Rattle.std.proofs.Math.Nat.{min-eq_left, min-le_left}
@@ -11,6 +11,7 @@ use Rattle.text.specs.Writers.{Writes}
 pub writes_more : {a b : List ℕ} {u v w : Writer} → Writes a u v → Writes b v w → Writes (a ++ b) u w
 writes_more {a} {b} f g = record {
   same_bytes = g.same_bytes ∙ f.same_bytes;
+  counts = let long = length-append a b in let i = f.counts in let j = g.counts in grind arith;
   adds = λ base text w. rw (sym (append_assoc text a b)) (g.adds base (text ++ a) (f.adds base text w));
 }
 

@@ -79,7 +79,7 @@ pub fn write_card(
     card.fit(out)
 }
 
-// The card where there is no plan.
+// The card where there is no plan. It and the next name what they say, and are one call of a constant each.
 pub fn write_none(out: &mut [u8]) -> Option<usize>
     ensures { Fitted none_card out.old result out.new }
 {
