@@ -20,7 +20,7 @@ impl Name {
         ensures { Decides result (name_bytes self.now ≡ s.now) }
     {
         let n = self.len as usize;
-        let part: &[u8] = &self.bytes[0..n];
+        let part: &[u8] = &self.bytes[..n];
         part == s
     }
 }

@@ -1,4 +1,4 @@
-// A name as it stands in a sheet, which has at most 15 bytes.
+// A name as it stands in a sheet: at most 15 bytes of it.
 ghost use Rattle.std.specs.Prelude.{◌≡◌, ◌≤◌, length, MatchOption};
 ghost use Rattle.sheet.specs.Print.{IsName};
 
@@ -6,7 +6,7 @@ use crate::field::is_name;
 
 #[derive(Clone, Copy)]
 pub struct PlainName<'a> {
-    pub(crate) bytes: &'a [u8],
+    pub bytes: &'a [u8],
     ghost short: { length bytes.now ≤ 15 },
 }
 
