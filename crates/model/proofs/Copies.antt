@@ -1,20 +1,10 @@
--- One cell more in the table, and the whole order.
-use Rattle.std.proofs.Common.{◌≡◌, ℕ, ◌+◌, ◌*◌, ◌<◌, ◌≤◌, ◌≢◌, List, length, set, sym, ap, ◌∙◌, subst, arith, get_or-set_other, get_or-set_same, below_more}
-use Rattle.std.proofs.lemmas.Bool.{lt-ltb, le-leb, and_from, cond-true}
+-- The whole order at the front of a table.
+use Rattle.std.proofs.Common.{◌≡◌, ℕ, ◌+◌, ◌-◌, ◌*◌, ◌<◌, ◌≤◌, true, Result, Ok, Err, OnOk, is_ok, List, ◌++◌, length, get_or, drop, sym, ap, ◌∙◌, subst, arith, length-append}
+use Rattle.std.proofs.lemmas.Bool.{true≢false}
+use Rattle.std.proofs.Math.ListN.{get_or-append}
+use Rattle.std.proofs.lemmas.List.{get_or-append_right, get_or-drop, length-drop}
 use Rattle.model.specs.declared.cell.Cell.{Cell}
-use Rattle.model.specs.Rankings.{Order, Undo, Ranked, Copied, Sofar, EachOnce, cell_of, cell_answer}
-
-pub answer_within : (o : Order) (times steps p : ℕ) → times ≤ 32 → steps ≤ 256 → p < times * steps → cell_answer o times steps p ≡ o.cell times steps p
-answer_within o times steps p a b h =
-    cond-true _ _ _ (and_from _ _ (and_from _ _ (le-leb times 32 a) (le-leb steps 256 b)) (lt-ltb p (times * steps) h))
-
-pub sofar_more : (o : Order) (times steps n : ℕ) (before after : List Cell) (x : Cell) → n < length after → x ≡ o.cell times steps n → Sofar o times steps n before after → Sofar o times steps (n + 1) before (set after n x)
-sofar_more o times steps n before after x room is s = record {
-  holds = below_more _ _
-      (λ k h. let ne : k ≢ n = omega arith in get_or-set_other after n k x (cell_of 0 0) ne ∙ s.holds k h)
-      (get_or-set_same after n x (cell_of 0 0) room ∙ is);
-  beyond = λ k h. let ne : k ≢ n = omega arith in get_or-set_other after n k x (cell_of 0 0) ne ∙ s.beyond k (omega arith);
-}
+use Rattle.model.specs.Rankings.{Order, Undo, Ranked, Copied, EachOnce, cell_of}
 
 -- what a copied table holds is every cell, each once
 pub each_once : (o : Order) → Undo o → (times steps : ℕ) → Ranked times steps → (before after : List Cell) → Copied o times steps before after → EachOnce times steps after
@@ -23,3 +13,20 @@ each_once o u times steps l before after c = record {
   distinct = λ p q h k e. sym (u.back times steps p l h) ∙ ap (o.place times steps) (sym (c.holds p h) ∙ e ∙ c.holds q k) ∙ u.back times steps q l k;
   complete = λ x t s. let p = o.place times steps x in let h = u.place_within times steps x l t s in (p, h, c.holds p h ∙ u.forth times steps x l t s);
 }
+
+-- cells in the order, before the rest of a table
+pub copied_front : (o : Order) (times steps : ℕ) (cells table : List Cell) → length cells ≡ times * steps → times * steps ≤ length table
+    → ((p : ℕ) → p < times * steps → get_or cells p (cell_of 0 0) ≡ o.cell times steps p) → Copied o times steps table (cells ++ drop (times * steps) table)
+copied_front o times steps cells table long room each =
+    let n = times * steps in
+    let d = cell_of 0 0 in
+    record {
+      same_length = omega (arith, length-append cells (drop n table), length-drop n table, long, room);
+      holds = λ p h. let below : p < length cells = omega arith in get_or-append cells (drop n table) d p below ∙ each p h;
+      beyond = λ p h. let e : n + (p - n) ≡ p = omega arith in get_or-append_right cells (drop n table) n p d long h ∙ get_or-drop n table (p - n) d ∙ ap (λ i. get_or table i d) e;
+    }
+
+-- what is said of a success, where it was one
+pub on_ok : {T E P : Type 0} (r : Result T E) → is_ok r ≡ true → OnOk r P → P
+on_ok (Ok x) e p = p
+on_ok (Err x) e p = absurd (true≢false (sym e))

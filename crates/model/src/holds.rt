@@ -13,8 +13,8 @@ use sets::facts::{FactSet, LiteralSet};
 fn copy_steps<S: ProblemSource>(source: &S, table: &mut [Step; 256])
     ensures { take (steps (S.meaning source.now)) table.new ≡ (S.meaning source.now).rows }
 {
-    for o in 0..source.steps() {
-        table[o] = source.step(o);
+    for (number, step) in table[..source.steps()].iter_mut().enumerate() {
+        *step = source.step(number);
     }
 }
 

@@ -35,9 +35,6 @@ impl Planner {
         ensures obeys { Obeys self.now (report_call out.old (reply (λ n. n) result) out.new) self.now }
     {
         let outcome = self.asked()?;
-        match self.write(outcome, out) {
-            Some(n) => Ok(n),
-            None => Err(Decline::TooShort),
-        }
+        self.write(outcome, out).ok_or(Decline::TooShort)
     }
 }

@@ -50,6 +50,7 @@ impl Search {
         requires { length ≤ 32 }
         ensures { Asked self.old length (R.order ranking.now) self.new }
     {
+        // never refused: the table holds the longest order
         let _ = copy_order(ranking, length, self.problem.steps(), &mut self.order);
         self.length = length;
         self.pins = Pins::none();

@@ -1,11 +1,14 @@
 -- How the steps of a line and the lines of a card follow one another.
-use Rattle.std.proofs.Common.{◌≡◌, ℕ, zero, suc, ◌+◌, ◌<◌, ◌≤◌, Bool, true, false, cond, List, [], ◌∷◌, ◌++◌, decimal, ap, ◌∙◌, ⊎_elim, add-one, arith}
-use Rattle.std.proofs.lemmas.List.{append-nil}
+use Rattle.std.proofs.Common.{◌≡◌, ℕ, zero, suc, ◌+◌, ◌<◌, ◌≤◌, Bool, true, false, cond, List, [], ◌∷◌, ◌++◌, decimal, length, get_or, take, sym, ap, ◌∙◌, ⊎_elim, add-one, arith}
+use Rattle.std.proofs.lemmas.List.{append-nil, get_or-take, length-take}
 use Rattle.std.proofs.lemmas.Bool.{cases_lt}
-use Rattle.model.specs.Plans.{Cells}
-use Rattle.text.specs.Written.{Adds}
-use Rattle.text.specs.Cards.{steps_up_to, line_of, card_of}
-use Rattle.text.proofs.Writing.{adds_more, adds_same}
+use Rattle.std.proofs.Math.Nat.{min-le_left}
+use Rattle.sets.specs.Sets.{step_in, no_steps}
+use Rattle.sets.specs.declared.steps.StepSet.{StepSet}
+use Rattle.text.specs.declared.write.Writer.{Writer}
+use Rattle.text.specs.Writers.{Writes}
+use Rattle.text.specs.Cards.{steps_up_to, line_of, card_of, taken_in}
+use Rattle.text.proofs.Writing.{writes_more, writes_same}
 
 -- steps that are not taken add nothing
 pub steps_skip : (taken : ℕ → Bool) (a b : ℕ) → a ≤ b → ((i : ℕ) → a ≤ i → i < b → taken i ≡ false)
@@ -19,21 +22,23 @@ steps_skip taken a (suc b) le none = ⊎_elim
     (cases_lt a (suc b))
 
 -- on to the next taken step
-pub steps_more : (taken : ℕ → Bool) (a b : ℕ) {o p q : List ℕ} {i j k : ℕ} → a ≤ b
+pub steps_more : (taken : ℕ → Bool) (a b : ℕ) {u v w : Writer} → a ≤ b
     → ((i : ℕ) → a ≤ i → i < b → taken i ≡ false) → taken b ≡ true
-    → Adds (steps_up_to taken a) o i p j → Adds (32 ∷ decimal b) p j q k → Adds (steps_up_to taken (b + 1)) o i q k
+    → Writes (steps_up_to taken a) u v → Writes (32 ∷ decimal b) v w → Writes (steps_up_to taken (b + 1)) u w
 steps_more taken a b le none is f g =
     let e : steps_up_to taken (b + 1) ≡ steps_up_to taken a ++ (32 ∷ decimal b) =
     rw add-one (ap (λ z. steps_up_to taken b ++ cond z (32 ∷ decimal b) []) is ∙ ap (λ z. z ++ (32 ∷ decimal b)) (steps_skip taken a b le none)) in
-    adds_same e (adds_more f g)
+    writes_same e (writes_more f g)
 
 -- past the last taken step
-pub steps_all : (taken : ℕ → Bool) (a m : ℕ) {o p : List ℕ} {i j : ℕ} → a ≤ m
+pub steps_all : (taken : ℕ → Bool) (a m : ℕ) {u v : Writer} → a ≤ m
     → ((i : ℕ) → a ≤ i → i < m → taken i ≡ false)
-    → Adds (steps_up_to taken a) o i p j → Adds (steps_up_to taken m) o i p j
-steps_all taken a m le none f = adds_same (steps_skip taken a m le none) f
+    → Writes (steps_up_to taken a) u v → Writes (steps_up_to taken m) u v
+steps_all taken a m le none f = writes_same (steps_skip taken a m le none) f
 
--- one line more
-pub card_more : (taken : Cells) (m t : ℕ) {o p q : List ℕ} {i j k : ℕ} → Adds (card_of taken m t) o i p j
-    → Adds (line_of (taken t) m t) p j q k → Adds (card_of taken m (t + 1)) o i q k
-card_more taken m t f g = rw add-one (adds_more f g)
+-- one line more, of the front of a table
+pub card_more : (table : List StepSet) (n m t : ℕ) {u v w : Writer} → t < length (take n table) → Writes (card_of (taken_in table) m t) u v
+    → Writes (line_of (step_in (get_or (take n table) t no_steps)) m t) v w → Writes (card_of (taken_in table) m (t + 1)) u w
+card_more table n m t within f g =
+    let below : t < n = omega (arith, within, length-take n table, min-le_left n (length table)) in
+    rw add-one (writes_more f (writes_same (ap (λ s. line_of (step_in s) m t) (sym (get_or-take n table t no_steps below))) g))

@@ -1,5 +1,5 @@
 -- Text that is written into a caller's bytes. Assumes nothing.
-use Rattle.std.specs.Prelude.{◌≡◌, ℕ, ◌<◌, ◌≤◌, List, ◌++◌, length, take, drop, Some, None, Ok, Err, Option, Result}
+use Rattle.std.specs.Prelude.{◌≡◌, ℕ, ◌<◌, ◌≤◌, ◌-◌, ◌^◌, min, List, ◌++◌, length, take, drop, Some, None, Ok, Err, Option, Result}
 
 -- There is one writer. It counts every byte and writes only those for which there is room, so it is run twice:
 -- over no bytes, to measure, and then over the caller's.
@@ -8,7 +8,7 @@ use Rattle.std.specs.Prelude.{◌≡◌, ℕ, ◌<◌, ◌≤◌, List, ◌++◌
 -- the bytes now begin with it, and go on as they were
 pub record Wrote (base now : List ℕ) (count : ℕ) (text : List ℕ) : Type 0 where
   pub long : length now ≡ length base
-  pub counts : count ≡ length text
+  pub counts : count ≡ min (length text) (2 ^ 64 - 1)
   pub same : length text ≤ length base → now ≡ text ++ drop (length text) base
 
 -- whatever text was written before, more now stands behind it

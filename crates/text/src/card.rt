@@ -1,66 +1,64 @@
 // The job card.
-ghost use Rattle.std.specs.Prelude.{◌≡◌, ℕ, ◌+◌, ◌*◌, ◌^◌, ◌<◌, ◌≤◌, min, List, [], ◌∷◌, decimal};
+ghost use Rattle.std.specs.Prelude.{◌≡◌, ℕ, min, List, [], ◌∷◌, decimal, Option};
 ghost use Rattle.sets.specs.Sets.{step_in, no_steps};
-ghost use Rattle.text.specs.Written.{Adds, Fitted};
+ghost use Rattle.text.specs.Written.{Fitted};
+ghost use Rattle.text.specs.Writers.{Writes};
 ghost use Rattle.text.specs.Cards.{steps_up_to, line_of, card_of, taken_in, none_card, not_yet_card};
 
-use crate::write::{number, put, write_text};
+use crate::write::{Text, Writer, write_text};
 use sets::steps::StepSet;
 
-fn step(out: &mut [u8], at: usize, o: usize) -> usize
-    requires { at + 22 < 2 ^ 64 }
-    ensures adds { Adds (32 ∷ decimal o) out.old at out.new result }
-    ensures next { result ≤ at + 21 }
+fn step(writer: &mut Writer, o: usize)
+    ensures { Writes (32 ∷ decimal o) writer.old writer.new }
 {
-    let blank = put(out, at, 32);
-    number(out, blank, o)
+    writer.byte(b' ');
+    writer.number(o);
 }
 
-// The members below a count, rising: no more than 256, of at most 21 bytes each.
-fn members(out: &mut [u8], at: usize, set: &StepSet, count: usize) -> usize
-    requires { at + 5400 < 2 ^ 64 }
-    ensures adds { Adds (steps_up_to (step_in set.now) count) out.old at out.new result }
-    ensures next { result ≤ at + 5376 }
+// The members below a count, rising.
+fn members(writer: &mut Writer, set: &StepSet, count: usize)
+    ensures { Writes (steps_up_to (step_in set.now) count) writer.old writer.new }
 {
-    let mut next = at;
     let mut from = 0;
     while let Some(o) = set.next_from(from) {
         if o >= count {
             break;
         }
-        next = step(out, next, o);
+        step(writer, o);
         from = o + 1;
     }
-    next
 }
 
-fn line(out: &mut [u8], at: usize, set: &StepSet, count: usize, t: usize) -> usize
-    requires { at + 5500 < 2 ^ 64 }
-    ensures adds { Adds (line_of (step_in set.now) count t) out.old at out.new result }
-    ensures next { result ≤ at + 5400 }
+fn line(writer: &mut Writer, set: &StepSet, count: usize, t: usize)
+    ensures { Writes (line_of (step_in set.now) count t) writer.old writer.new }
 {
-    let time = number(out, at, t);
-    let colon = put(out, time, 58);
-    let steps = members(out, colon, set, count);
-    put(out, steps, 10)
+    writer.number(t);
+    writer.byte(b':');
+    members(writer, set, count);
+    writer.byte(b'\n');
 }
 
-fn lines(out: &mut [u8], taken: &[StepSet; 32], steps: usize, times: usize) -> usize
-    requires { times ≤ 32 }
-    ensures { Adds (card_of (taken_in taken.now) steps times) out.old 0 out.new result }
-{
-    let mut next = 0;
-    for t in 0..times {
-        next = line(out, next, &taken[t], steps, t);
+// What a plan takes at each time of its length, those of the first `steps` steps that are in that time's set.
+#[derive(Clone, Copy)]
+struct Card<'a> {
+    taken: &'a [StepSet; 32],
+    steps: usize,
+    length: usize,
+}
+
+impl Text for Card<'_> {
+    ghost text = { λ c. card_of (taken_in c.taken.now) c.steps (min c.length 32) };
+
+    fn write(&self, writer: &mut Writer) {
+        let Card {
+            taken,
+            steps,
+            length,
+        } = *self;
+        for (t, set) in taken[..length.min(taken.len())].iter().enumerate() {
+            line(writer, set, steps, t);
+        }
     }
-    next
-}
-
-// The table has 32 times.
-fn clipped(length: usize) -> usize
-    ensures { result ≡ min length 32 }
-{
-    if length < 32 { length } else { 32 }
 }
 
 // The card of the plan that takes at each time those of the first `steps` steps that are in that time's set, into the
@@ -73,12 +71,12 @@ pub fn write_card(
 ) -> Option<usize>
     ensures { Fitted (card_of (taken_in taken.now) steps (min length 32)) out.old result out.new }
 {
-    let times = clipped(length);
-    let size = lines(&mut [], taken, steps, times);
-    if size > out.len() {
-        return None;
-    }
-    Some(lines(out, taken, steps, times))
+    let card = Card {
+        taken,
+        steps,
+        length,
+    };
+    card.fit(out)
 }
 
 // The card where there is no plan.

@@ -1,51 +1,81 @@
 // The one writer: it counts every byte, and writes those for which there is room.
-ghost use Rattle.std.specs.Prelude.{◌≡◌, ℕ, ◌+◌, ◌^◌, ◌<◌, ◌≤◌, List, [], ◌∷◌, length, decimal};
-ghost use Rattle.text.specs.Written.{Adds, Fitted};
+ghost use Rattle.std.specs.Prelude.{◌≡◌, ℕ, List, [], ◌∷◌, decimal, Option};
+ghost use Rattle.text.specs.Written.{Fitted};
+ghost use Rattle.text.specs.Writers.{Writes};
 
-// Each call takes the place to write at, and returns the next place, which a word must be able to count.
-pub fn put(out: &mut [u8], at: usize, b: u8) -> usize
-    requires { at + 1 < 2 ^ 64 }
-    ensures adds { Adds (b ∷ []) out.old at out.new result }
-    ensures next { result ≡ at + 1 }
-{
-    if at >= out.len() {
-        return at + 1;
-    }
-    out[at] = b;
-    at + 1
+// A place in the bytes to write at. It may lie beyond them, and a word's greatest number stands for any beyond it.
+#[derive(Drop)]
+pub struct Writer<'a> {
+    pub out: &'a mut [u8],
+    pub at: usize,
 }
 
-pub fn bytes(out: &mut [u8], at: usize, text: &[u8]) -> usize
-    requires { at + length text.now < 2 ^ 64 }
-    ensures adds { Adds text.now out.old at out.new result }
-    ensures next { result ≡ at + length text.now }
-{
-    let mut next = at;
-    for b in text {
-        next = put(out, next, *b);
+impl Writer<'_> {
+    pub fn byte(&mut self, b: u8)
+        ensures { Writes (b ∷ []) self.old self.new }
+    {
+        if self.at < self.out.len() {
+            self.out[self.at] = b;
+        }
+        self.at = self.at.saturating_add(1);
     }
-    next
+
+    pub fn bytes(&mut self, text: &[u8])
+        ensures { Writes text.now self.old self.new }
+    {
+        for b in text {
+            self.byte(*b);
+        }
+    }
+
+    // In decimal, with no leading zero.
+    pub fn number(&mut self, n: usize)
+        ensures { Writes (decimal n) self.old self.new }
+    {
+        if n >= 10 {
+            self.number(n / 10);
+        }
+        self.byte(b'0' + (n % 10) as u8);
+    }
 }
 
-// In decimal, with no leading zero: at most 20 bytes.
-pub fn number(out: &mut [u8], at: usize, n: usize) -> usize
-    requires { at + 21 < 2 ^ 64 }
-    ensures adds { Adds (decimal n) out.old at out.new result }
-    ensures next { result ≤ at + 20 }
-{
-    if n < 10 {
-        return put(out, at, 48 + n as u8);
+// What can be written as text, all of it or nothing.
+pub trait Text {
+    // the bytes
+    ghost text: { Self → List ℕ };
+
+    fn write(&self, writer: &mut Writer)
+        ensures { Writes (text self.now) writer.old writer.new };
+
+    // Into the caller's bytes, or nothing where they are too few.
+    final fn fit(&self, out: &mut [u8]) -> Option<usize>
+        ensures { Fitted (text self.now) out.old result out.new }
+    {
+        let mut measure = Writer {
+            out: &mut [],
+            at: 0,
+        };
+        self.write(&mut measure);
+        if measure.at > out.len() {
+            return None;
+        }
+        let mut writer = Writer { out, at: 0 };
+        self.write(&mut writer);
+        Some(writer.at)
     }
-    let next = number(out, at, n / 10);
-    put(out, next, 48 + (n % 10) as u8)
+}
+
+impl Text for &[u8] {
+    ghost text = { λ b. b.now };
+
+    fn write(&self, writer: &mut Writer) {
+        writer.bytes(self);
+    }
 }
 
 // A text into the caller's bytes, or nothing where they are too few.
 pub fn write_text(text: &[u8], out: &mut [u8]) -> Option<usize>
     ensures { Fitted text.now out.old result out.new }
 {
-    if text.len() > out.len() {
-        return None;
-    }
-    Some(bytes(out, 0, text))
+    text.fit(out)
 }

@@ -1,6 +1,6 @@
-use Rattle.std.proofs.Common.{◌≡◌, length, take}
+use Rattle.std.proofs.Common.{◌≡◌, take}
 use Rattle.model.proofs.holds.copy_steps.Given as goal
 
 -- so many rows are copied
-abbrev pub invariant-loop-o : goal.invariant-loop-o
-invariant-loop-o g l = (take l.o l.table ≡ take l.o (g.S.ProblemSource.meaning l.source).rows) × (length l.table ≡ 256)
+abbrev pub invariant-loop-number : goal.invariant-loop-number
+invariant-loop-number g l = take l.number l.step-items ≡ take l.number (g.S.ProblemSource.meaning l.source).rows

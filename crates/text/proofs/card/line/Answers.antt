@@ -1,9 +1,5 @@
-use Rattle.std.proofs.Common.{arith}
-use Rattle.text.proofs.Writing.{adds_more}
+use Rattle.text.proofs.Writing.{writes_more}
 use Rattle.text.proofs.card.line.Goals as goal
 
 pub returns : goal.returns
-returns c = record {
-  adds = adds_more (adds_more c.number-time.ensures.adds c.put-colon.ensures.adds) (adds_more c.members-steps.ensures.adds c.put.ensures.adds);
-  next = omega arith;
-}
+returns c = writes_more (writes_more c.number.ensures c.byte.ensures) (writes_more c.members.ensures c.byte-2.ensures)

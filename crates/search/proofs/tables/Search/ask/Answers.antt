@@ -1,7 +1,8 @@
-use Rattle.std.proofs.Common.{◌≡◌, ℕ, ◌*◌, ◌≤◌, true, length, sym, refl, ◌∙◌, subst, mul-le-mul, arith}
+use Rattle.std.proofs.Common.{◌≡◌, ℕ, ◌*◌, ◌≤◌, true, is_ok, length, sym, refl, ◌∙◌, subst, mul-le-mul, arith}
 use Rattle.model.specs.Problems.{steps}
 use Rattle.model.specs.Held.{problem_of}
 use Rattle.model.specs.Rankings.{EachOnce, Copied}
+use Rattle.model.proofs.Copies.{on_ok}
 use Rattle.marks.specs.Pinning.{pins_of}
 use Rattle.search.proofs.Ordered.{ordered}
 use Rattle.search.proofs.Searches.{few_rows}
@@ -16,10 +17,10 @@ invariant_of-self g c =
     let few = few_rows s.problem in
     let small : T * m ≤ 8192 = mul-le-mul c.requires few in
     let long : length c.copy_order.new.table ≡ 8192 = omega (arith, c.copy_order.auto.table, s.order_sized) in
-    let true_at : c.copy_order.result ≡ true = c.copy_order.ensures.fits
+    let true_at : is_ok c.copy_order.result ≡ true = c.copy_order.ensures.fits
     ∙ fits_true T c.steps.result (length s.order) c.requires (omega (arith, few, c.steps.ensures))
     (subst (λ (k : ℕ). T * k ≤ length s.order) (sym c.steps.ensures) (omega (arith, small, s.order_sized))) in
-    let once : EachOnce T m c.copy_order.new.table = subst (λ (k : ℕ). EachOnce T k c.copy_order.new.table) c.steps.ensures (c.copy_order.ensures.once true_at) in record {
+    let once : EachOnce T m c.copy_order.new.table = subst (λ (k : ℕ). EachOnce T k c.copy_order.new.table) c.steps.ensures (on_ok c.copy_order.result true_at c.copy_order.ensures.once) in record {
       short = c.requires;
       deep = omega arith;
       order_sized = long;
@@ -37,8 +38,8 @@ returns g c =
     let o = g.R.Ranking.order c.args.ranking.now in
     let few = few_rows s.problem in
     let small : T * m ≤ 8192 = mul-le-mul c.requires few in
-    let true_at : c.copy_order.result ≡ true = c.copy_order.ensures.fits
+    let true_at : is_ok c.copy_order.result ≡ true = c.copy_order.ensures.fits
     ∙ fits_true T c.steps.result (length s.order) c.requires (omega (arith, few, c.steps.ensures))
     (subst (λ (k : ℕ). T * k ≤ length s.order) (sym c.steps.ensures) (omega (arith, small, s.order_sized))) in
-    let copied : Copied o T m s.order c.copy_order.new.table = subst (λ (k : ℕ). Copied o T k s.order c.copy_order.new.table) c.steps.ensures (c.copy_order.ensures.copied true_at) in
+    let copied : Copied o T m s.order c.copy_order.new.table = subst (λ (k : ℕ). Copied o T k s.order c.copy_order.new.table) c.steps.ensures (on_ok c.copy_order.result true_at c.copy_order.ensures.copied) in
     record { problem = refl; length = refl; ordered = copied.holds; free = c.none-self.ensures; fresh = refl }
