@@ -1,21 +1,18 @@
 -- What a call leaves in the planner's tables is what the ledger's rules write. Assumes nothing.
-use Rattle.std.proofs.Common.{◌≡◌, ℕ, zero, suc, ◌*◌, ◌<◌, ◌≤◌, Bool, true, false, cond, ◌&&◌, eqb, ltb, List, [], ◌∷◌, ◌++◌, length, get_or, take, sym, refl, ap, ◌∙◌, subst, arith, take-suc}
+use Rattle.std.proofs.Common.{◌≡◌, ℕ, zero, suc, ◌*◌, ◌<◌, ◌≤◌, Bool, true, false, cond, eqb, List, [], ◌∷◌, ◌++◌, length, get_or, take, sym, refl, ap, ◌∙◌, subst, arith, take-suc}
 use mathlib.Core.Path.{fun_ext}
-use Rattle.std.proofs.lemmas.Bool.{lt-ltb, cond-false, ne_eqb}
 use Rattle.model.specs.declared.cell.Cell.{Cell}
-use Rattle.model.specs.declared.answers.Outcome.{Outcome}
 use Rattle.model.specs.declared.answers.Outcome.TheVariants.{NotYet}
 use Rattle.model.specs.Problems.{Problem, steps}
-use Rattle.model.specs.Plans.{Pin, Pins}
+use Rattle.model.specs.Plans.{Pins}
 use Rattle.model.specs.Rankings.{Order, cell_of}
 use Rattle.model.specs.Held.{problem_of}
-use Rattle.marks.specs.Pinning.{pins_of, same_cell}
 use Rattle.search.specs.declared.tables.Search.{Search}
-use Rattle.search.specs.Begins.{Asked, Repinned}
+use Rattle.search.specs.Begins.{Asked}
 use Rattle.search.proofs.Searches.{room}
 use Rattle.planner.specs.declared.tables.Planner.{Planner}
 use Rattle.planner.specs.declared.tables.Stage.TheVariants as stage
-use Rattle.planner.specs.Ledger.{Ledger, Ledger.asked, Event, no_pins, declines, cells_upto, repin, enter, write, number}
+use Rattle.planner.specs.Ledger.{Ledger, Ledger.asked, Event, no_pins, declines, cells_upto, enter, write, number}
 use Rattle.planner.specs.Promises.{Promise}
 use Rattle.planner.specs.Obeys.{ledger_at, ledger, path, Obeys}
 
@@ -47,18 +44,6 @@ ask_enters s s' T o p e a =
     (λ k l. let inside = subst (λ (q : Problem). k < T * steps q) (sym e) l in a.ordered k inside ∙ ap (λ (q : Problem). o.cell T (steps q) k) e))
     (fun_ext (λ t. fun_ext (λ k. a.free t k))) refl
 
--- a pin set or struck
-pub pin_enters : (s s' : Search) (x : Outcome) (c : Cell) (pin : Pin) (t o : ℕ) → c.time ≡ t → c.step ≡ o → t < 32 → Repinned s c pin s'
-    → ledger_at (stage.Asked NotYet) s' ≡ repin (ledger_at (stage.Asked x) s) t o pin
-pin_enters s s' x c pin t o e f l r =
-    let same : problem_of s'.problem ≡ problem_of s.problem = ap problem_of r.problem in
-    let count : s'.length * steps (problem_of s'.problem) ≡ s.length * steps (problem_of s.problem)
-    = ap (λ (n : ℕ). n * steps (problem_of s'.problem)) r.length ∙ ap (λ (q : Problem). s.length * steps q) same in
-    let here : (u k : ℕ) → (ltb c.time 32 && same_cell c u k) ≡ (eqb t u && eqb o k)
-    = λ u k. ap (λ (b : Bool). b && same_cell c u k) (lt-ltb c.time 32 (omega arith)) ∙ ap (λ (n : ℕ). eqb n u && eqb c.step k) e ∙ ap (λ (n : ℕ). eqb t u && eqb n k) f in
-    asked_same same r.length (ap (λ (n : ℕ). take n s'.order) count ∙ ap (take (s.length * steps (problem_of s.problem))) r.order)
-    (fun_ext (λ u. fun_ext (λ k. r.pins u k ∙ ap (λ (b : Bool). cond b pin (pins_of s.pins u k)) (here u k)))) refl
-
 -- a call that no row declines writes what it enters
 pub write_enters : (L : Ledger) (e : Event) → declines L e ≡ 0 → write L e ≡ enter L e
 write_enters L e h = ap (λ (n : ℕ). cond (eqb n 0) (enter L e) L) h
@@ -70,14 +55,6 @@ obeys_done p q e L h d w n k = record {
   written = w ∙ sym (write_enters L e d) ∙ ap (λ (K : Ledger). write K e) (sym h);
   promised = subst (λ (K : Ledger). Promise K (path p) e (path q)) (sym h) k;
   unchanged = λ l. absurd (omega arith);
-}
-
--- a call that a row declines
-pub obeys_declined : (p : Planner) (e : Event) → 0 < declines (ledger p) e → Promise (ledger p) (path p) e (path p) → Obeys p e p
-obeys_declined p e l k = record {
-  written = sym (cond-false _ _ _ (ne_eqb (declines (ledger p) e) 0 (λ z. omega arith)));
-  promised = k;
-  unchanged = λ _. refl;
 }
 
 -- a call that only looks

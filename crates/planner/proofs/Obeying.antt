@@ -1,5 +1,5 @@
 -- Each call obeys, from what the search under it promises. Assumes nothing.
-use Rattle.std.proofs.Common.{◌≡◌, ℕ, ◌*◌, ◌<◌, ◌≤◌, Bool, true, false, cond, not, ltb, List, [], ◌∷◌, length, get_or, take, Some, None as Nothing, sym, refl, ap, ◌∙◌, subst, inr, arith}
+use Rattle.std.proofs.Common.{◌≡◌, ℕ, ◌*◌, ◌≤◌, Bool, false, cond, ltb, List, length, get_or, take, Option, Some, None as Nothing, refl, ap, ◌∙◌, subst, inr, arith}
 use native.Mathlib.Nat.{ℕ_set}
 use mathlib.Core.Logic.{∥∥₁_map, ∥∥₁_elim}
 use Rattle.std.proofs.lemmas.List.{same_lists}
@@ -7,62 +7,31 @@ use Rattle.std.proofs.lemmas.Bool.{ne_eqb, le-ltb, lt-leb, or_from}
 use Rattle.model.specs.declared.cell.Cell.{Cell}
 use Rattle.model.specs.declared.answers.Outcome.{Outcome}
 use Rattle.model.specs.declared.answers.Outcome.TheVariants.{NotYet}
-use Rattle.model.specs.declared.answers.Decline.{Decline}
-use Rattle.model.specs.declared.path.Side.{Side}
-use Rattle.model.specs.declared.path.Side.TheVariants as side
-use Rattle.model.specs.Problems.{Problem, steps}
-use Rattle.model.specs.Plans.{Pin, unpinned}
+use Rattle.std.specs.Option.{ok_or}
+use Rattle.model.specs.declared.answers.Decline.TheVariants.{TooShort}
+use Rattle.model.specs.Problems.{steps}
 use Rattle.model.specs.Rankings.{Order}
 use Rattle.model.specs.Held.{problem_of}
-use Rattle.model.specs.Answers.{outcome_number, decline_number}
+use Rattle.model.specs.Answers.{outcome_number}
 use Rattle.model.specs.Forcing.{ForcedSays}
-use Rattle.marks.specs.Pinning.{pins_of, pin_of}
-use Rattle.text.specs.Written.{Fitted}
-use Rattle.search.specs.Begins.{Opened, Asked, Repinned}
+use Rattle.marks.specs.Pinning.{pins_of}
+use Rattle.search.specs.Begins.{Asked}
 use Rattle.search.specs.Looks.{Ask, asked as asked_of, Ran}
 use Rattle.planner.specs.declared.tables.Planner.{Planner}
 use Rattle.planner.specs.declared.tables.Stage.{Stage}
 use Rattle.planner.specs.declared.tables.Stage.TheVariants as stage
-use Rattle.planner.specs.Ledger.{Ledger, Ledger.asked, Ledger.opened, Reply.declined, Reply.answered, unopened, unasked, out_of_range, is_pinned, pinned, bad_grant, first_fitting, pin_for, repin, problem, declines, Event.open_call, Event.ask_call, Event.pin_call, Event.unpin_call, Event.run_call, Event.forced_call, Event.report_call}
-use Rattle.planner.specs.Promises.{CardOf}
-use Rattle.planner.specs.Obeys.{ledger_at, ledger, Obeys}
-use Rattle.planner.specs.Checks.{InRange, cell_rows}
-use Rattle.planner.proofs.Entering.{ask_enters, pin_enters, obeys_done, obeys_declined, obeys_look}
+use Rattle.planner.specs.Ledger.{Ledger, Reply, Ledger.asked, Reply.declined, Reply.answered, unopened, out_of_range, bad_grant, problem, declines, Event.ask_call, Event.run_call, Event.forced_call, Event.report_call}
+use Rattle.planner.specs.Promises.{Reports}
+use Rattle.planner.specs.Cards.{Writes}
+use Rattle.planner.specs.Obeys.{ledger_at, ledger, reply, Obeys}
+use Rattle.planner.specs.Checks.{InRange}
+use Rattle.planner.proofs.Entering.{ask_enters, obeys_done, obeys_look}
 use Rattle.planner.proofs.Saying.{ended_with}
 use Rattle.planner.proofs.Telling.{ledger_so, says, says_again}
-
--- rows behind one that fits do not count
-behind : (a b c d : Bool) (k l m n : ℕ) → 0 < first_fitting ((a, k) ∷ (b, l) ∷ (c, m) ∷ [])
-    → first_fitting ((a, k) ∷ (b, l) ∷ (c, m) ∷ (d, n) ∷ []) ≡ first_fitting ((a, k) ∷ (b, l) ∷ (c, m) ∷ [])
-behind true b c d k l m n h = refl
-behind false true c d k l m n h = refl
-behind false false true d k l m n h = refl
-behind false false false d k l m n h = absurd (omega arith)
-
-module _ (p : Planner) (t o : ℕ) (e : Decline) (h : decline_number e ≡ cell_rows p t o) (l : 0 < cell_rows p t o) where
-  rows : (d : Bool) (n : ℕ) → first_fitting ((unopened (ledger p), 21) ∷ (unasked (ledger p), 22) ∷ (out_of_range (ledger p) t o, 24) ∷ (d, n) ∷ []) ≡ cell_rows p t o
-  rows d n = behind (unopened (ledger p)) (unasked (ledger p)) (out_of_range (ledger p) t o) d 21 22 24 n l
-
-  pub pin_breaks : (b : Bool) → Obeys p (pin_call t o b (declined (decline_number e))) p
-  pin_breaks b =
-      let r = rows (pinned (ledger p) t o) 25 in
-      let more = subst (λ (n : ℕ). 0 < n) (sym r) l in
-      obeys_declined p (pin_call t o b (declined (decline_number e))) more (h ∙ sym r, more, refl)
-
-  pub unpin_breaks : Obeys p (unpin_call t o (declined (decline_number e))) p
-  unpin_breaks =
-      let r = rows (not (pinned (ledger p) t o)) 26 in
-      let more = subst (λ (n : ℕ). 0 < n) (sym r) l in
-      obeys_declined p (unpin_call t o (declined (decline_number e))) more (h ∙ sym r, more, refl)
 
 -- a cell in range
 in_range : (p : Planner) (x : Outcome) (t o : ℕ) (c : Cell) → InRange p t o c → out_of_range (ledger_at (stage.Asked x) p.search) t o ≡ false
 in_range p x t o c r = or_from _ _ (lt-leb p.search.length t r.in_time) (lt-leb (steps (problem_of p.search.problem)) o r.in_count)
-
-pub open_obeys : (p q : Planner) (w : Problem) → q.stage ≡ stage.Opened → Opened w q.search → Obeys p (open_call w) q
-open_obeys p q w s h =
-    obeys_done p q (open_call w) (ledger p) refl refl
-    (ledger_so q stage.Opened s ∙ ap opened h.problem) refl h.fresh
 
 pub ask_obeys : (p q : Planner) (T : ℕ) (o : Order) → unopened (ledger p) ≡ false → T ≤ 32 → q.stage ≡ stage.Asked NotYet
     → Asked p.search T o q.search → Obeys p (ask_call T o (answered tt)) q
@@ -75,35 +44,6 @@ ask_obeys p q T o begun short s h =
     held stage.New z = absurd (let u : ◌≡◌ {A = ℕ} 0 1 = cc in omega arith)
     held stage.Opened z = refl
     held (stage.Asked y) z = refl
-
-side_pinned : (x : Side) → is_pinned (pin_of x) ≡ true
-side_pinned side.Taken = refl
-side_pinned side.LeftOut = refl
-
--- pinning and freeing a cell in range
-module _ (p q : Planner) (t o : ℕ) (c : Cell) (r : InRange p t o c) (fresh : q.stage ≡ stage.Asked NotYet) where
-  at_pin : pins_of p.search.pins c.time c.step ≡ pins_of p.search.pins t o
-  at_pin = ap (λ (n : ℕ). pins_of p.search.pins n c.step) r.time ∙ ap (λ (n : ℕ). pins_of p.search.pins t n) r.step
-
-  entered : (pin : Pin) → Repinned p.search c pin q.search → ledger q ≡ repin (ledger_at (stage.Asked r.outcome) p.search) t o pin
-  entered pin h = ledger_so q (stage.Asked NotYet) fresh ∙ pin_enters p.search q.search r.outcome c pin t o r.time r.step (omega (arith, r.in_time, p.search.short)) h
-
-  carried : (x : Bool) (n : ℕ) → x ≡ false → cond (out_of_range (ledger_at (stage.Asked r.outcome) p.search) t o) 24 (cond x n 0) ≡ 0
-  carried x n e = ap (λ (b : Bool). cond b 24 (cond x n 0)) (in_range p r.outcome t o c r) ∙ ap (λ (b : Bool). cond b n 0) e
-
-  pub pin_obeys : (b : Bool) (pin : Pin) → pins_of p.search.pins c.time c.step ≡ unpinned → pin ≡ pin_for b → Repinned p.search c pin q.search
-      → Obeys p (pin_call t o b (answered tt)) q
-  pin_obeys b pin free e h =
-      let d = carried (is_pinned (pins_of p.search.pins t o)) 25 (ap is_pinned (sym at_pin ∙ free)) in
-      obeys_done p q (pin_call t o b (answered tt)) (ledger_at (stage.Asked r.outcome) p.search) (ledger_so p (stage.Asked r.outcome) r.stage) d
-      (entered pin h ∙ ap (λ (x : Pin). repin (ledger_at (stage.Asked r.outcome) p.search) t o x) e) refl (d, h.fresh)
-
-  pub unpin_obeys : (x : Side) → pins_of p.search.pins c.time c.step ≡ pin_of x → Repinned p.search c unpinned q.search
-      → Obeys p (unpin_call t o (answered tt)) q
-  unpin_obeys x full h =
-      let d = carried (not (is_pinned (pins_of p.search.pins t o))) 26 (ap not (ap is_pinned (sym at_pin ∙ full) ∙ side_pinned x)) in
-      obeys_done p q (unpin_call t o (answered tt)) (ledger_at (stage.Asked r.outcome) p.search) (ledger_so p (stage.Asked r.outcome) r.stage) d
-      (entered unpinned h) refl (d, h.fresh)
 
 granted : (g : ℕ) → (g ≡ 0 → ⊥) → g ≤ 1000000 → ◌≡◌ {A = ℕ} (cond (bad_grant g) 27 0) 0
 granted g n l = ap (λ (b : Bool). cond b 27 0) (or_from _ _ (ne_eqb g 0 n) (le-ltb 1000000 g l))
@@ -132,20 +72,17 @@ forced_obeys p t o c n r h =
     obeys_look p (forced_call t o (answered n)) (ledger_at (stage.Asked r.outcome) p.search) (ledger_so p (stage.Asked r.outcome) r.stage) refl
     (refl, (ap (λ (b : Bool). cond b 24 0) (in_range p r.outcome t o c r), told))
 
--- a report for which there was no room
-pub report_short : (p : Planner) (out out' : List ℕ) (o : Outcome) → p.stage ≡ stage.Asked o
-    → ∥ ((text : List ℕ) × CardOf (ledger p) text × Fitted text out Nothing out') ∥₁ → Obeys p (report_call out (declined 28) out') p
-report_short p out out' o s w =
-    let same = same_lists out' out (∥∥₁_elim w (ℕ_set _ _) (λ x. ap length x.2.same))
-    (λ k d l. ∥∥₁_elim w (ℕ_set _ _) (λ x. ap (λ (bytes : List ℕ). get_or bytes k d) x.2.same)) in
-    obeys_look p (report_call out (declined 28) out') (ledger p) refl refl
-    (refl, (same, inr (none_fits, refl, ∥∥₁_map w (λ x. (x.0, x.1, x.2.fewer)))))
+-- a report, by whether there was room for its card
+pub report_obeys : (p : Planner) (out out' : List ℕ) (o : Outcome) → p.stage ≡ stage.Asked o → (r : Option ℕ) → Writes p out r out'
+    → Obeys p (report_call out (reply (λ n. n) (ok_or r TooShort)) out') p
+report_obeys p out out' o s r w = obeys_look p (report_call out (reply (λ n. n) (ok_or r TooShort)) out') (ledger p) refl refl (refl, told r w)
   where
-    none_fits : declines (ledger p) (report_call out (declined 28) out') ≡ 0
-    none_fits = ap (λ (L : Ledger). declines L (report_call out (declined 28) out')) (ledger_so p (stage.Asked o) s)
+    none_fits : (x : Reply ℕ) → declines (ledger p) (report_call out x out') ≡ 0
+    none_fits x = ap (λ (L : Ledger). declines L (report_call out x out')) (ledger_so p (stage.Asked o) s)
 
-pub report_obeys : (p : Planner) (out out' : List ℕ) (n : ℕ) (o : Outcome) → p.stage ≡ stage.Asked o
-    → ∥ ((text : List ℕ) × CardOf (ledger p) text × Fitted text out (Some n) out') ∥₁ → Obeys p (report_call out (answered n) out') p
-report_obeys p out out' n o s w =
-    obeys_look p (report_call out (answered n) out') (ledger p) refl refl
-    (refl, (ap (λ (L : Ledger). declines L (report_call out (answered n) out')) (ledger_so p (stage.Asked o) s), w))
+    told : (x : Option ℕ) → Writes p out x out' → Reports (ledger p) (declines (ledger p) (report_call out (reply (λ n. n) (ok_or x TooShort)) out')) out (reply (λ n. n) (ok_or x TooShort)) out'
+    told (Some n) w = (none_fits (answered n), w)
+    told Nothing w = (
+      same_lists out' out (∥∥₁_elim w (ℕ_set _ _) (λ x. ap length x.2.same)) (λ k d l. ∥∥₁_elim w (ℕ_set _ _) (λ x. ap (λ (bytes : List ℕ). get_or bytes k d) x.2.same)),
+      inr (none_fits (declined 28), refl, ∥∥₁_map w (λ x. (x.0, x.1, x.2.fewer))),
+    )

@@ -1,5 +1,5 @@
 -- What a run says, from what the search did. Assumes nothing.
-use Rattle.std.proofs.Common.{◌≡◌, ℕ, zero, suc, ◌<◌, min, Bool, true, false, cond, ◌&&◌, eqb, ltb, List, [], ◌∷◌, ◌++◌, length, get_or, Some, None as Nothing, decimal, Option, is_some, MatchOption, sym, refl, ap, ◌∙◌, subst, ⊎_elim, arith}
+use Rattle.std.proofs.Common.{◌≡◌, ℕ, zero, suc, ◌<◌, min, Bool, cond, ◌&&◌, eqb, ltb, List, [], ◌∷◌, ◌++◌, length, get_or, decimal, Option, sym, refl, ap, ◌∙◌, subst, ⊎_elim, arith}
 use native.Mathlib.Nat.{ℕ_set}
 use mathlib.Core.Logic.{∥∥₁_elim, ∥∥₁_map}
 use mathlib.Core.HLevel.{⊥_prop}
@@ -15,7 +15,7 @@ use Rattle.model.specs.declared.path.Side.{Side}
 use Rattle.model.specs.declared.path.Side.TheVariants as side
 use Rattle.model.specs.Paths.{takes}
 use Rattle.model.specs.Problems.{steps}
-use Rattle.model.specs.Plans.{Cells, Pin, Pins, unpinned}
+use Rattle.model.specs.Plans.{Cells, Pin, Pins}
 use Rattle.model.specs.Held.{problem_of}
 use Rattle.model.specs.Choices.{Fair}
 use Rattle.model.specs.Firsts.{First, None, NoneLeft}
@@ -85,15 +85,6 @@ card_same a b m (suc t) h =
 pub plan_card : (s : Search) → card_of (taken_in s.plan.taken) (steps (problem_of s.problem)) s.length ≡ card_of (plan_of s) (steps (problem_of s.problem)) s.length
 plan_card s = card_same (taken_in s.plan.taken) (plan_of s) (steps (problem_of s.problem)) s.length
     (λ t o l k. sym (ap (λ (b : Bool). b && step_in (get_or s.plan.taken t no_steps) o) (and_from _ _ (lt-ltb t s.length l) (lt-ltb o (steps (problem_of s.problem)) k))))
-
--- a cell that is found without a pin, or with one
-pub found_free : (found : Option Side) (pin : Pin) → is_some found ≡ false → MatchOption found (pin ≡ unpinned) (λ x. pin ≡ pin_of x) → pin ≡ unpinned
-found_free Nothing pin e h = h
-found_free (Some x) pin e h = absurd (let z : ◌≡◌ {A = ℕ} 0 1 = cc in omega arith)
-
-pub found_pinned : (found : Option Side) (pin : Pin) → is_some found ≡ true → MatchOption found (pin ≡ unpinned) (λ x. pin ≡ pin_of x) → (x : Side) × (pin ≡ pin_of x)
-found_pinned Nothing pin e h = absurd (let z : ◌≡◌ {A = ℕ} 0 1 = cc in omega arith)
-found_pinned (Some x) pin e h = (x, h)
 
 -- the pin of the side that takes, or of the other
 pub pin_so : (x : Side) (taken : Bool) → takes x ≡ taken → pin_of x ≡ pin_for taken

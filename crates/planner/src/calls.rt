@@ -18,6 +18,7 @@ use model::ranking::Ranking;
 use model::source::ProblemSource;
 use search::tables::Search;
 
+// Each call that may be declined says `kept` itself: it relates the planner before and after the call, which no type's invariant states.
 impl Planner {
     // A planner that nothing was opened in.
     pub fn new() -> Planner

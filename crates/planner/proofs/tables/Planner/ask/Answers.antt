@@ -4,9 +4,6 @@ use Rattle.planner.specs.Obeys.{ledger}
 use Rattle.planner.proofs.Obeying.{ask_obeys}
 use Rattle.planner.proofs.tables.Planner.ask.Goals as goal
 
-pub invariant_of-self : goal.invariant_of-self
-invariant_of-self g c = record { ended = ∣ tt ∣₁ }
-
 not_fitting : (b : Bool) → ◌≡◌ {A = ℕ} (cond b 21 0) 0 → b ≡ false
 not_fitting true h = absurd (omega arith)
 not_fitting false h = refl

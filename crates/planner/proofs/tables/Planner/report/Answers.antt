@@ -1,14 +1,12 @@
-use Rattle.std.proofs.Common.{◌≡◌, ℕ, List, Option, Some, None as Nothing, sym, subst}
+use Rattle.std.proofs.Common.{◌≡◌, ℕ, List, Option, Some, None as Nothing, Result, sym, subst}
 use Rattle.std.specs.Option.{ok_or}
+use Rattle.model.specs.declared.answers.Decline.{Decline}
 use Rattle.model.specs.declared.answers.Decline.TheVariants.{TooShort}
-use Rattle.model.specs.declared.answers.Outcome.{Outcome}
 use Rattle.planner.specs.declared.tables.Planner.{Planner}
-use Rattle.planner.specs.declared.tables.Stage.TheVariants as stage
 use Rattle.planner.specs.Calls.{Writes, Reports, look_declines}
-use Rattle.planner.specs.Cards.{Writes as WritesCard}
 use Rattle.planner.specs.Ledger.{Event.report_call}
 use Rattle.planner.specs.Obeys.{Obeys, reply}
-use Rattle.planner.proofs.Obeying.{report_short, report_obeys}
+use Rattle.planner.proofs.Obeying.{report_obeys}
 use Rattle.planner.proofs.tables.Planner.report.Goals as goal
 
 -- by whether there was room
@@ -17,17 +15,12 @@ says : (p : Planner) (out out' : List ℕ) → look_declines p ≡ Nothing → (
 says p out out' none (Some n) w = (none, w)
 says p out out' none Nothing w = (none, w)
 
-obeys : (p : Planner) (out out' : List ℕ) (o : Outcome) → p.stage ≡ stage.Asked o → (r : Option ℕ) → WritesCard p out r out'
-    → Obeys p (report_call out (reply (λ n. n) (ok_or r TooShort)) out') p
-obeys p out out' o asked (Some n) w = report_obeys p out out' n o asked w
-obeys p out out' o asked Nothing w = report_short p out out' o asked w
-
 pub returns-clause-says : goal.returns-clause-says
 returns-clause-says c =
-    subst (λ r. Reports c.args.self.now c.args.out.now r c.write.new.out) (sym c.ok_or.ensures.value)
+    subst (λ (r : Result ℕ Decline). Reports c.args.self.now c.args.out.now r c.write.new.out) (sym c.ok_or.ensures.value)
     (says c.args.self.now c.args.out.now c.write.new.out (sym c.in_ok-outcome.ensures.number) c.write.result c.write.ensures.card)
 
 pub returns-clause-obeys : goal.returns-clause-obeys
 returns-clause-obeys c =
-    subst (λ r. Obeys c.args.self.now (report_call c.args.out.now (reply (λ n. n) r) c.write.new.out) c.args.self.now) (sym c.ok_or.ensures.value)
-    (obeys c.args.self.now c.args.out.now c.write.new.out c.in_ok-outcome.outcome c.in_ok-outcome.ensures.checked.1 c.write.result c.write.ensures.told)
+    subst (λ (r : Result ℕ Decline). Obeys c.args.self.now (report_call c.args.out.now (reply (λ n. n) r) c.write.new.out) c.args.self.now) (sym c.ok_or.ensures.value)
+    (report_obeys c.args.self.now c.args.out.now c.write.new.out c.in_ok-outcome.outcome c.in_ok-outcome.ensures.checked.1 c.write.result c.write.ensures.told)
