@@ -106,11 +106,13 @@ fn done<E: Into<u8>>(rt: &HostRuntime, res: Result<(), E>) -> anyhow::Result<()>
     tell(rt, res.map(|()| "ok"))
 }
 
+// Answers what is no command, or a file that cannot be read.
 fn puzzled(rt: &HostRuntime) -> anyhow::Result<()> {
     println!(rt; "?")?;
     Ok(())
 }
 
+// The sheet's own writer fills bytes, as on a device; here they are printed.
 fn tell_fault(rt: &HostRuntime, fault: &SheetFault) -> anyhow::Result<()> {
     let mut line = [0; 64];
     match write_fault(fault, &mut line) {

@@ -6,6 +6,7 @@ ghost use Rattle.board.specs.Commands.{Spells, Begins, InFields, spelled, headed
 
 use crate::field::{RankingName, SourceName, after, asking, number, numbers, opening, pinning};
 
+// Its numbers stand apart, as the planner's calls take them: a time and a step need not be those of a cell.
 #[derive(Clone, Copy)]
 pub enum Command<'a> {
     Open {
@@ -118,6 +119,7 @@ fn command_of<'a>(line: &'a [u8], word: Word) -> Option<Command<'a>>
 pub fn parse<'a>(line: &'a [u8]) -> Option<Command<'a>>
     ensures { MatchOption result ((c : Command) → Spells c line.now → ⊥) (λ c. Spells c line.now) }
 {
+    // As a `find_map` it did not close: the shelf has no lemma on what that finds.
     for word in &Word::ALL {
         if let Some(command) = command_of(line, *word) {
             return Some(command);

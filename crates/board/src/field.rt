@@ -43,7 +43,7 @@ pub(crate) fn number(s: &[u8]) -> Option<u32>
     Some(n)
 }
 
-// What follows a word that stands at the front.
+// What follows a word that stands at the front; said of lists once, for all who ask.
 pub(crate) fn after<'a>(s: &'a [u8], word: &[u8]) -> Option<&'a [u8]>
     ensures { MatchOption result ((f : List ℕ) → s.now ≢ word.now ++ f) (λ x. s.now ≡ word.now ++ x.now) }
 {

@@ -3,8 +3,6 @@
 
 ghost use Rattle.examples.specs.Worked.{Worked};
 
-pub fn examples_stand() -> u8
+pub fn examples_stand()
     ensures { Worked }
-{
-    0
-}
+{}

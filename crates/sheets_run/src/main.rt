@@ -56,49 +56,59 @@ fn tell_problem(rt: &HostRuntime, problem: &SheetProblem) -> io::Result<()> {
     println!(rt; "")
 }
 
-fn tell_fault(rt: &HostRuntime, fault: SheetFault) -> anyhow::Result<()> {
-    let mut line = [0u8; 37];
-    match write_fault(&fault, &mut line) {
-        Ok(n) if n <= 37 => Ok(rt.stdout().write_all(&line[0..n])?),
-        _ => Err(anyhow!("the fault line has no room")),
+// The sheet's own writer fills bytes, as on a device; here they are printed.
+fn tell_fault(rt: &HostRuntime, fault: &SheetFault) -> anyhow::Result<()> {
+    let mut line = [0; 37];
+    match write_fault(fault, &mut line) {
+        Ok(n) => Ok(rt.stdout().write_all(&line[..n])?),
+        Err(_) => Err(anyhow!("the fault line has no room")),
     }
 }
 
-// Reads a sheet and tells the problem that it states, or its fault.
-fn tell(rt: &HostRuntime, sheet: &[u8], problem: &mut SheetProblem) -> anyhow::Result<()> {
+// Reads a sheet, and tells what is to be told of the problem that it states, or its fault.
+fn read_and<F: FnOnce(&SheetProblem) -> io::Result<()>>(
+    rt: &HostRuntime,
+    sheet: &[u8],
+    problem: &mut SheetProblem,
+    tell: F,
+) -> anyhow::Result<()>
+    requires { F.IsAlwaysCallable tell }
+{
     match read(sheet, problem) {
-        Ok(()) => Ok(tell_problem(rt, problem)?),
-        Err(fault) => tell_fault(rt, fault),
+        Ok(()) => Ok(tell(problem)?),
+        Err(fault) => tell_fault(rt, &fault),
     }
 }
 
-// Reads a sheet and tells how large it is, or its fault.
-fn measure(rt: &HostRuntime, sheet: &[u8], problem: &mut SheetProblem) -> anyhow::Result<()> {
-    match read(sheet, problem) {
-        Ok(()) => Ok(println!(rt;
-            "{} bytes, {} facts, {} steps",
-            sheet.len(),
-            problem.facts(),
-            problem.steps()
-        )?),
-        Err(fault) => tell_fault(rt, fault),
-    }
-}
-
-// The sheets of the input.
+// The sheets of the input, each with the problem that it states.
 fn given(rt: &HostRuntime, heap: Global, problem: &mut SheetProblem) -> anyhow::Result<()> {
     for sheet in BufReader::new(heap, rt.stdin())?.split(heap, b'%') {
-        tell(rt, &sheet?, problem)?;
+        read_and(rt, &sheet?, problem, |p| tell_problem(rt, p))?;
     }
     Ok(())
+}
+
+// How large a sheet is, where it is read.
+fn measure(rt: &HostRuntime, sheet: &[u8], problem: &mut SheetProblem) -> anyhow::Result<()> {
+    read_and(rt, sheet, problem, |p| {
+        println!(rt;
+            "{} bytes, {} facts, {} steps",
+            sheet.len(),
+            p.facts(),
+            p.steps()
+        )
+    })
 }
 
 // The largest sheet that is read, of each sort, and the smallest that is not.
 fn at_limits(rt: &HostRuntime, heap: Global, problem: &mut SheetProblem) -> anyhow::Result<()> {
-    for which in 0..7 {
-        measure(rt, &built::sheet(heap, which)?, problem)?;
-    }
-    Ok(())
+    measure(rt, &built::facts(heap, 64)?, problem)?;
+    measure(rt, &built::facts(heap, 65)?, problem)?;
+    measure(rt, &built::again(heap)?, problem)?;
+    measure(rt, &built::steps(heap, 256)?, problem)?;
+    measure(rt, &built::steps(heap, 257)?, problem)?;
+    measure(rt, &built::bytes(heap, 65535)?, problem)?;
+    measure(rt, &built::bytes(heap, 65536)?, problem)
 }
 
 fn run(rt: &HostRuntime, heap: Global) -> anyhow::Result<()> {
