@@ -1,6 +1,6 @@
 -- The trail: what one more mark does to it, and that it fits its table. Assumes nothing.
 use Rattle.std.proofs.Common.{◌≡◌, ℕ, zero, suc, ◌+◌, ◌-◌, ◌*◌, ◌/◌, ◌%◌, ◌<◌, ◌≤◌, Bool, true, false, cond, not, ◌&&◌, ◌||◌, eqb, ◌≢◌, ◌⊎◌, List, length, set, sym, refl, ap, ◌∙◌, subst, ap₂, inl, inr, ⊎_elim, suc-le-suc, zero-le, add-one, arith, get_or-set_other, get_or-set_same}
-use Rattle.std.proofs.lemmas.Bool.{both_ways, cases_Bool, cases_eq, cases_order, and_parts, and_from, or_cases, or_left, or_right, eqb-true, eq-eqb, ne_eqb, lt-ltb, ltb-true, leb-true, cond-true, cond-false}
+use Rattle.std.proofs.lemmas.Bool.{both_ways, cases_Bool, cases_eq, cases_order, and_parts, and_from, or_cases, or_left, or_right, eqb-true, eq-eqb, ne_eqb, ltb-true, leb-true, cond-true, cond-false}
 use Rattle.sets.specs.Literals.{Literal, lit, code, opposite}
 use Rattle.sets.proofs.Literals.{lit_even, lit_odd, code_lit}
 use Rattle.marks.specs.declared.mark.Mark.{Mark}
@@ -91,16 +91,6 @@ opp_lit_byte l h = ⊎_elim (λ e. omega arith) (λ e. omega arith) (opp_either 
 
 pub opp_lit_small : (l : ℕ) → l < 128 → opp_lit l < 128
 opp_lit_small l h = ⊎_elim (λ e. omega arith) (λ e. omega arith) (opp_either l)
-
-pub opp_ranged : (T : ℕ) (x : Mark) → ranged T x ≡ true → ranged T (opp x) ≡ true
-opp_ranged T (Fact t l) h = let a = and_parts _ _ h in and_from _ _ a.0 (lt-ltb _ _ (opp_lit_small l (ltb-true l 128 a.1)))
-opp_ranged T (Taken t l) h = h
-opp_ranged T (LeftOut t l) h = h
-
-pub opp_opp : (x : Mark) → opp (opp x) ≡ x
-opp_opp (Fact t l) = ap (λ (k : ℕ). Fact t k) (opp_lit_opp l)
-opp_opp (Taken t o) = refl
-opp_opp (LeftOut t o) = refl
 
 -- ---- membership in the trail
 
@@ -224,16 +214,10 @@ slot_opp (Fact t l) = ⊎_elim (λ e. omega arith) (λ e. omega arith) (opp_eith
 slot_opp (Taken t o) = refl
 slot_opp (LeftOut t o) = refl
 
-fact_number : Mark → ℕ
-fact_number (Fact t l) = l
-fact_number (Taken t o) = 0
-fact_number (LeftOut t o) = 1
-
 opp_differs : (x : Mark) → opp x ≡ x → ⊥
-unfolding fact_number
-opp_differs (Fact t l) e = let k = ap fact_number e in ⊎_elim (λ q. omega arith) (λ q. omega arith) (opp_either l)
-opp_differs (Taken t o) e = let k = ap fact_number e in omega arith
-opp_differs (LeftOut t o) e = let k = ap fact_number e in omega arith
+opp_differs (Fact t l) e = let k : opp_lit l ≡ l = cc in ⊎_elim (λ q. omega arith) (λ q. omega arith) (opp_either l)
+opp_differs (Taken t o) e = cc
+opp_differs (LeftOut t o) e = cc
 
 pub never_both_in : (r : List Mark) (n : ℕ) → Apart r n → (x : Mark) → in_trail r n x ≡ true → in_trail r n (opp x) ≡ true → ⊥
 never_both_in r n apart x h k =
