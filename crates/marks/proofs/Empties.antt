@@ -1,5 +1,6 @@
 -- Empty sets, and tables of them.
-use Rattle.std.proofs.Common.{◌≡◌, ℕ, zero, suc, ◌%◌, ◌≤◌, false, List, get_or, replicate, ap, ◌∙◌, arith}
+use Rattle.std.proofs.Common.{◌≡◌, ℕ, zero, suc, ◌%◌, false, List, length, ltb, get_or, replicate, sym, ap, ◌∙◌}
+use Rattle.std.proofs.lemmas.Bool.{ltb-false}
 use Rattle.std.proofs.lemmas.List.{get_or_past}
 use Rattle.sets.specs.Literals.{Literal, lit}
 use Rattle.sets.specs.Sets.{lit_in, step_in, no_literals, no_steps}
@@ -10,11 +11,9 @@ use Rattle.model.proofs.Fitting.{no_literal}
 use Rattle.marks.specs.declared.mark.Mark.{Mark}
 use Rattle.marks.specs.declared.mark.Mark.TheVariants.{Fact, Taken, LeftOut}
 use Rattle.model.specs.declared.cell.Cell.{Cell}
-use Rattle.model.specs.declared.path.Side.{Side}
-use Rattle.model.specs.declared.path.Side.TheVariants as side
 use Rattle.marks.specs.declared.cells.CellSides.{CellSides}
 use Rattle.marks.specs.declared.marked.Marked.{Marked}
-use Rattle.marks.specs.Cells.{side_in, Unsaid}
+use Rattle.marks.specs.Cells.{Unsaid}
 use Rattle.marks.specs.Tables.{number_in, on_in, marked_in, in_trail, Listed}
 
 pub no_step : (i : ℕ) → step_in no_steps i ≡ false
@@ -42,10 +41,9 @@ pub listed_none : (k : Marked) → ((x : Mark) → marked_in k x ≡ false) → 
 unfolding in_trail
 listed_none k h r = h
 
--- nothing stands past the end of the tables
-pub side_past : (k : CellSides) (s : Side) (t o : ℕ) → 32 ≤ t → side_in k s t o ≡ false
-side_past k side.Taken t o h = ap (λ (z : StepSet). step_in z o) (get_or_past k.taken t no_steps (omega (arith, k.all_taken))) ∙ no_step o
-side_past k side.LeftOut t o h = ap (λ (z : StepSet). step_in z o) (get_or_past k.left t no_steps (omega (arith, k.all_left))) ∙ no_step o
+-- nothing stands past the end of a table
+pub no_step_past : (table : List StepSet) (t i : ℕ) → false ≡ ltb t (length table) → step_in (get_or table t no_steps) i ≡ false
+no_step_past table t i h = ap (λ (s : StepSet). step_in s i) (get_or_past table t no_steps (ltb-false t (length table) (sym h))) ∙ no_step i
 
-pub fact_past : (k : Marked) (t l : ℕ) → 33 ≤ t → marked_in k (Fact t l) ≡ false
-fact_past k t l h = ap (λ (z : LiteralSet). number_in z l) (get_or_past k.facts t no_literals (omega (arith, k.all_facts))) ∙ no_literal (lit l)
+pub no_number_past : (table : List LiteralSet) (t i : ℕ) → false ≡ ltb t (length table) → number_in (get_or table t no_literals) i ≡ false
+no_number_past table t i h = ap (λ (s : LiteralSet). number_in s i) (get_or_past table t no_literals (ltb-false t (length table) (sym h))) ∙ no_literal (lit i)

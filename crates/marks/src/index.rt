@@ -5,6 +5,7 @@ use sets::facts::LiteralSet;
 use sets::steps::StepSet;
 
 // By step its needs, makes and rivals; by literal its makers, its needers and the literals that share a clause with it.
+// A table each, not records: transposing and seeking rivals read some tables whole while another is written.
 #[derive(Drop)]
 pub struct Index {
     pub(crate) needs: [LiteralSet; 256],

@@ -1,6 +1,4 @@
 // What is marked, in tables.
-ghost use Rattle.std.specs.Prelude.{◌≡◌, length};
-
 use crate::cells::CellSides;
 use sets::facts::LiteralSet;
 
@@ -9,5 +7,4 @@ use sets::facts::LiteralSet;
 pub struct Marked {
     pub(crate) facts: [LiteralSet; 33],
     pub(crate) cells: CellSides,
-    ghost all_facts: { length facts ≡ 33 },
 }

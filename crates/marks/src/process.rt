@@ -11,6 +11,7 @@ use crate::mark::Mark;
 use crate::tables::Marks;
 use sets::facts::LiteralSet;
 
+// The index stays a parameter: a struct that borrowed both would put one step more into each path of each clause.
 impl Marks {
     // Checks every literal of the set at `t`.
     fn check_all(&mut self, ix: &Index, t: usize, literals: LiteralSet)

@@ -50,7 +50,10 @@ impl Marked {
         ensures { result ≡ marked_in self.now x }
     {
         match x {
-            Mark::Fact(t, l) => t < 33 && self.facts[t as usize].contains(l as usize),
+            Mark::Fact(t, l) => match self.facts.get(t as usize) {
+                Some(literals) => literals.contains(l as usize),
+                None => false,
+            },
             Mark::Taken(time, step) => self.cells.has(Cell { time, step }, Side::Taken),
             Mark::LeftOut(time, step) => self.cells.has(Cell { time, step }, Side::LeftOut),
         }

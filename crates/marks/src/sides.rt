@@ -44,8 +44,10 @@ impl CellSides {
     pub(crate) fn has(&self, cell: Cell, side: Side) -> bool
         ensures { result ≡ said self.now side cell }
     {
-        let time = cell.time as usize;
-        time < 32 && self.on(side)[time].contains(cell.step)
+        match self.on(side).get(cell.time as usize) {
+            Some(steps) => steps.contains(cell.step),
+            None => false,
+        }
     }
 
     // Which side the cell is on, if any.

@@ -8,10 +8,12 @@ use crate::marked::Marked;
 // The marks of a problem of one length: what is marked, and the marks in the order in which they came.
 #[derive(Drop)]
 pub struct Marks {
+    // a time or a mark within the length is a fact of these marks too, which no type of the time alone can carry
     pub(crate) length: usize,
     pub(crate) marked: Marked,
-    // no Option round the marks: after a contradiction they stay, until they are taken back
+    // a flag beside the marks: after a contradiction they stay, until they are taken back
     pub(crate) conflict: bool,
+    // the room and the use of the stack that is taken up at each push and pop
     pub(crate) trail: [Mark; 10304],
     pub(crate) len: usize,
     pub(crate) head: usize,

@@ -1,7 +1,9 @@
-use Rattle.std.proofs.Common.{sym, ◌∙◌, arith}
-use Rattle.std.proofs.lemmas.Bool.{le-ltb}
-use Rattle.marks.proofs.Empties.{side_past}
+use Rattle.std.proofs.Common.{List, ltb, length, sym, ◌∙◌, ap}
+use Rattle.sets.specs.declared.steps.StepSet.{StepSet}
+use Rattle.marks.specs.Cells.{table_of}
+use Rattle.marks.proofs.Empties.{no_step_past}
 use Rattle.marks.proofs.cells.CellSides.has.Goals as goal
 
-pub returns-else-time-lt32 : goal.returns-else-time-lt32
-returns-else-time-lt32 c = le-ltb c.args.cell.time 32 (omega arith) ∙ sym (side_past c.args.self.now c.args.side c.args.cell.time c.args.cell.step (omega arith))
+pub returns-in-None : goal.returns-in-None
+returns-in-None c = sym (no_step_past (table_of c.args.self.now c.args.side) c.args.cell.time c.args.cell.step
+    (c.in-None.ensures.lookup.0 ∙ ap (λ (table : List StepSet). ltb c.args.cell.time (length table)) c.on.ensures))
