@@ -64,7 +64,7 @@ means_kept ix p rows V e w = record {
 }
 
 -- at length 0 there is no cell
-pub ordered_none : (m : ℕ) (order : List Cell) → Ordered 0 m (places_in order)
+ordered_none : (m : ℕ) (order : List Cell) → Ordered 0 m (places_in order)
 ordered_none m order = record {
   place_below = λ c r q. absurd (omega arith);
   cell_below = λ k h. absurd (let z : 0 * m ≡ 0 = zero-mul m in omega arith);
@@ -89,12 +89,13 @@ range_with pins new T m c pin inside r w t o h = ⊎_elim
     (λ b. let e = w t o ∙ cond-false _ _ _ b in r t o (⊎_elim (λ k. inl (sym e ∙ k)) (λ k. inr (sym e ∙ k)) h))
     (cases_Bool (ltb c.time 32 && is_cell c t o))
 
--- the search at the beginning
-pub begins : (t : ProblemTable) (V : Clauses) (ix : Index) (T : ℕ) (order : List Cell) (pins : Pins) (root : CellMarks) (m : Marks) (ls : List Level)
-    → Largest (problem_of t) V → Means ix (problem_of t) V → Ordered T (steps (problem_of t)) (places_in order) → InRange pins T (steps (problem_of t))
-    → Begun ix pins T m → CellsOf m root → ∥ Sound (problem_of t) V ix T order pins root m ls 0 ∥₁
-begins t V ix T order pins root m ls largest means ordered range b k =
-    ∣ sound_begin (problem_of t) V ix T order pins root m ls (table_well t) largest means ordered range (m, b.the_length, b.rest, k) b.the_length b.rest ∣₁
+-- a search of a problem just taken up
+pub opens : (t : ProblemTable) {V : Clauses} {ix : Index} {order : List Cell} {pins : Pins} {root : CellMarks} {m : Marks} {ls : List Level}
+    → Largest (problem_of t) V → Means ix (problem_of t) V → ((t o : ℕ) → pins t o ≡ unpinned) → Begun ix pins 0 m → CellsOf m root
+    → ∥ Sound (problem_of t) V ix 0 order pins root m ls 0 ∥₁
+opens t {V} {ix} {order} {pins} {root} {m} {ls} largest means free b k =
+    ∣ sound_begin (problem_of t) V ix 0 order pins root m ls (table_well t) largest means (ordered_none (steps (problem_of t)) order)
+    (range_none pins 0 (steps (problem_of t)) free) (m, b.the_length, b.rest, k) b.the_length b.rest ∣₁
 
 -- what a search keeps of its problem, as it begins anew
 module _ (s : Search) where

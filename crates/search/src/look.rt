@@ -31,11 +31,7 @@ impl Search {
         requires { place < 8192 }
         ensures { MatchBool result (Undecided self.now.marks (cell_at self.now.order place)) (told self.now.marks (cell_at self.now.order place) ≡ true) }
     {
-        let cell = self.order[place];
-        match self.marks.decided(cell) {
-            Some(_) => false,
-            None => true,
-        }
+        self.marks.decided(self.order[place]).is_none()
     }
 
     // The lowest place from `from` on whose cell has no mark.
@@ -43,12 +39,7 @@ impl Search {
         ensures { Opens self.now.marks self.now.order (cells (asked self.now)) from result }
     {
         let count = self.cell_count();
-        for place in from..count {
-            if self.is_open(place) {
-                return Some(place);
-            }
-        }
-        None
+        (from..count).find(|place| self.is_open(*place))
     }
 
     // The place behind that of the newest choice: every lower cell has a mark.

@@ -11,15 +11,15 @@ returns-then-contradicts c =
     let s = c.args.self.now in
     forced_says s c.args.cell 3 (λ V m tells same. told_contradiction (problem_of s.problem) (pins_of s.pins) V m s.root c.args.cell tells same (sym c.contradicts.ensures ∙ c.if-contradicts.true))
 
-pub returns-in-Taken : goal.returns-in-Taken
-returns-in-Taken c =
+pub returns-in-Some-Taken : goal.returns-in-Some-Taken
+returns-in-Some-Taken c =
     let s = c.args.self.now in
-    forced_says s c.args.cell 1 (λ V m tells same. told_taken (problem_of s.problem) (pins_of s.pins) V m s.root c.args.cell tells same (sym c.contradicts.ensures ∙ c.if-contradicts.false) (subst (λ (x : Side). said s.root x c.args.cell ≡ true) c.in-Taken.is c.in-Some.ensures))
+    forced_says s c.args.cell 1 (λ V m tells same. told_taken (problem_of s.problem) (pins_of s.pins) V m s.root c.args.cell tells same (sym c.contradicts.ensures ∙ c.if-contradicts.false) (subst (λ (x : Side). said s.root x c.args.cell ≡ true) c.in-Some-Taken.field-0-is c.in-Some-Taken.ensures))
 
-pub returns-in-LeftOut : goal.returns-in-LeftOut
-returns-in-LeftOut c =
+pub returns-in-Some-LeftOut : goal.returns-in-Some-LeftOut
+returns-in-Some-LeftOut c =
     let s = c.args.self.now in
-    forced_says s c.args.cell 2 (λ V m tells same. told_left (problem_of s.problem) (pins_of s.pins) V m s.root c.args.cell tells same (sym c.contradicts.ensures ∙ c.if-contradicts.false) (subst (λ (x : Side). said s.root x c.args.cell ≡ true) c.in-LeftOut.is c.in-Some.ensures))
+    forced_says s c.args.cell 2 (λ V m tells same. told_left (problem_of s.problem) (pins_of s.pins) V m s.root c.args.cell tells same (sym c.contradicts.ensures ∙ c.if-contradicts.false) (subst (λ (x : Side). said s.root x c.args.cell ≡ true) c.in-Some-LeftOut.field-0-is c.in-Some-LeftOut.ensures))
 
 pub returns-in-None : goal.returns-in-None
 returns-in-None c =
