@@ -90,28 +90,24 @@ range_with pins new T m c pin inside r w t o h = ⊎_elim
     (cases_Bool (ltb c.time 32 && is_cell c t o))
 
 -- a search of a problem just taken up
-pub opens : (t : ProblemTable) {V : Clauses} {ix : Index} {order : List Cell} {pins : Pins} {root : CellMarks} {m : Marks} {ls : List Level}
-    → Largest (problem_of t) V → Means ix (problem_of t) V → ((t o : ℕ) → pins t o ≡ unpinned) → Begun ix pins 0 m → CellsOf m root
-    → ∥ Sound (problem_of t) V ix 0 order pins root m ls 0 ∥₁
-opens t {V} {ix} {order} {pins} {root} {m} {ls} largest means free b k =
-    ∣ sound_begin (problem_of t) V ix 0 order pins root m ls (table_well t) largest means (ordered_none (steps (problem_of t)) order)
-    (range_none pins 0 (steps (problem_of t)) free) (m, b.the_length, b.rest, k) b.the_length b.rest ∣₁
+pub opens : (t : ProblemTable) {V : Clauses} {ix : Index} {order : List Cell} {pins : Pins} {root : CellMarks} {m : Marks} {ls : List Level} {n : ℕ}
+    → Largest (problem_of t) V → Means ix (problem_of t) V → ((t o : ℕ) → pins t o ≡ unpinned) → Begun ix pins 0 m → CellsOf m root → n ≡ 0
+    → ∥ Sound (problem_of t) V ix 0 order pins root m ls n ∥₁
+opens t {order = order} {pins = pins} largest means free b k none =
+    ∣ sound_begin (table_well t) largest means (ordered_none (steps (problem_of t)) order) (range_none pins 0 (steps (problem_of t)) free) b k none ∣₁
 
 -- what a search keeps of its problem, as it begins anew
 module _ (s : Search) where
-  pub begins_anew : (pins : Pins) (root : CellMarks) (m : Marks) → InRange pins s.length (steps (problem_of s.problem))
-      → Begun s.index pins s.length m → CellsOf m root
-      → ∥ Sound (problem_of s.problem) (kept_in s.clauses) s.index s.length s.order pins root m s.levels 0 ∥₁
-  begins_anew pins root m range b k = ∥∥₁_map s.sound
-      (λ x. sound_begin (problem_of s.problem) (kept_in s.clauses) s.index s.length s.order pins root m s.levels x.well x.largest x.means x.ordered range
-      (m, b.the_length, b.rest, k) b.the_length b.rest)
+  pub begins_anew : {T : ℕ} {order : List Cell} {pins : Pins} {root : CellMarks} {m : Marks} {ls : List Level} {n : ℕ} → Ordered T (steps (problem_of s.problem)) (places_in order)
+      → InRange pins T (steps (problem_of s.problem)) → Begun s.index pins T m → CellsOf m root → n ≡ 0
+      → ∥ Sound (problem_of s.problem) (kept_in s.clauses) s.index T order pins root m ls n ∥₁
+  begins_anew ordered range b k none = ∥∥₁_map s.sound (λ x. sound_begin x.well x.largest x.means ordered range b k none)
 
-  pub asks_anew : (T : ℕ) (order : List Cell) (pins : Pins) (root : CellMarks) (m : Marks) → Ordered T (steps (problem_of s.problem)) (places_in order)
-      → InRange pins T (steps (problem_of s.problem)) → Begun s.index pins T m → CellsOf m root
-      → ∥ Sound (problem_of s.problem) (kept_in s.clauses) s.index T order pins root m s.levels 0 ∥₁
-  asks_anew T order pins root m ordered range b k = ∥∥₁_map s.sound
-      (λ x. sound_begin (problem_of s.problem) (kept_in s.clauses) s.index T order pins root m s.levels x.well x.largest x.means ordered range
-      (m, b.the_length, b.rest, k) b.the_length b.rest)
+  -- with other pins alone
+  pub pins_anew : {pins : Pins} {root : CellMarks} {m : Marks} {ls : List Level} {n : ℕ} → InRange pins s.length (steps (problem_of s.problem))
+      → Begun s.index pins s.length m → CellsOf m root → n ≡ 0
+      → ∥ Sound (problem_of s.problem) (kept_in s.clauses) s.index s.length s.order pins root m ls n ∥₁
+  pins_anew range b k none = ∥∥₁_map s.sound (λ x. sound_begin x.well x.largest x.means x.ordered range b k none)
 
   pub range_now : InRange (pins_of s.pins) s.length (steps (problem_of s.problem))
   range_now t o h = (∥∥₁_elim s.sound le_prop (λ x. (x.range t o h).0), ∥∥₁_elim s.sound le_prop (λ x. (x.range t o h).1))

@@ -42,7 +42,7 @@ impl Search {
         self.length = 0;
         self.pins = Pins::none();
         self.root = work_out(&mut self.marks, &self.index, &self.pins, 0);
-        self.depth = 0;
+        self.path.clear();
     }
 
     // Takes up a length, with the ranking's order of the cells, and with no pins.
@@ -54,7 +54,7 @@ impl Search {
         self.length = length;
         self.pins = Pins::none();
         self.root = work_out(&mut self.marks, &self.index, &self.pins, length);
-        self.depth = 0;
+        self.path.clear();
     }
 
     // Pins a cell in range, whatever it was pinned to.
@@ -64,7 +64,7 @@ impl Search {
     {
         self.pins.set(cell, side);
         self.root = work_out(&mut self.marks, &self.index, &self.pins, self.length);
-        self.depth = 0;
+        self.path.clear();
     }
 
     // Frees a cell.
@@ -73,6 +73,6 @@ impl Search {
     {
         self.pins.clear(cell);
         self.root = work_out(&mut self.marks, &self.index, &self.pins, self.length);
-        self.depth = 0;
+        self.path.clear();
     }
 }

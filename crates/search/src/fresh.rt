@@ -3,7 +3,7 @@ ghost use Rattle.model.specs.Problems.{empty_problem};
 ghost use Rattle.search.specs.Begins.{Opened};
 
 use crate::begin::work_out;
-use crate::level::Level;
+use crate::path::Path;
 use crate::tables::Search;
 use clauses::record::ClauseRecord;
 use marks::cells::CellMarks;
@@ -11,7 +11,6 @@ use marks::index::Index;
 use marks::pins::Pins;
 use marks::tables::Marks;
 use model::cell::Cell;
-use model::path::Side;
 use model::table::ProblemTable;
 
 impl Search {
@@ -36,12 +35,7 @@ impl Search {
             pins,
             root,
             marks,
-            levels: [Level {
-                place: 0,
-                side: Side::LeftOut,
-                trail: 0,
-            }; 8192],
-            depth: 0,
+            path: Path::empty(),
             plan: CellMarks::none(),
         }
     }

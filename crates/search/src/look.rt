@@ -46,10 +46,10 @@ impl Search {
     fn beyond(&self) -> usize
         ensures { self.now.marks.conflict ≡ false → Lower self.now.marks self.now.order result }
     {
-        if self.depth == 0 {
-            return 0;
+        match self.path.last() {
+            Some(level) => level.place as usize + 1,
+            None => 0,
         }
-        self.levels[self.depth - 1].place as usize + 1
     }
 
     // Looks at the marks.

@@ -5,7 +5,8 @@ use Rattle.model.specs.Rankings.{EachOnce, Copied}
 use Rattle.marks.specs.Pinning.{pins_of}
 use Rattle.search.proofs.Ordered.{ordered}
 use Rattle.search.proofs.Searches.{few_rows}
-use Rattle.search.proofs.Beginnings.{asks_anew, range_none, fits_true}
+use Rattle.search.proofs.Stepping.{path_none}
+use Rattle.search.proofs.Beginnings.{begins_anew, range_none, fits_true}
 use Rattle.search.proofs.tables.Search.ask.Goals as goal
 
 pub invariant_of-self : goal.invariant_of-self
@@ -21,12 +22,9 @@ invariant_of-self g c =
     (subst (λ (k : ℕ). T * k ≤ length s.order) (sym c.steps.ensures) (omega (arith, small, s.order_sized))) in
     let once : EachOnce T m c.copy_order.new.table = subst (λ (k : ℕ). EachOnce T k c.copy_order.new.table) c.steps.ensures (c.copy_order.ensures.once true_at) in record {
       short = c.requires;
-      deep = omega arith;
       order_sized = long;
-      levels_sized = s.levels_sized;
-      sound = asks_anew s T c.copy_order.new.table (pins_of c.none-self.result) c.work_out-self.result c.work_out-self.new.marks
-          (ordered T m c.copy_order.new.table once (omega (arith, small, long))) (range_none (pins_of c.none-self.result) T m c.none-self.ensures)
-          c.work_out-self.ensures.begun c.work_out-self.ensures.cells;
+      sound = begins_anew s (ordered T m c.copy_order.new.table once (omega (arith, small, long)))
+          (range_none (pins_of c.none-self.result) T m c.none-self.ensures) c.work_out-self.ensures.begun c.work_out-self.ensures.cells c.clear.ensures;
     }
 
 pub returns : goal.returns
@@ -41,4 +39,4 @@ returns g c =
     ∙ fits_true T c.steps.result (length s.order) c.requires (omega (arith, few, c.steps.ensures))
     (subst (λ (k : ℕ). T * k ≤ length s.order) (sym c.steps.ensures) (omega (arith, small, s.order_sized))) in
     let copied : Copied o T m s.order c.copy_order.new.table = subst (λ (k : ℕ). Copied o T k s.order c.copy_order.new.table) c.steps.ensures (c.copy_order.ensures.copied true_at) in
-    record { problem = refl; length = refl; ordered = copied.holds; free = c.none-self.ensures; fresh = refl }
+    record { problem = refl; length = refl; ordered = copied.holds; free = c.none-self.ensures; fresh = path_none _ _ c.clear.ensures }
