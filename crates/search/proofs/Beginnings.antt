@@ -5,7 +5,8 @@ use native.Mathlib.Bridge.{le_prop}
 use Rattle.sets.specs.Literals.{Literal, lit, code}
 use Rattle.sets.specs.Sets.{lit_in, no_literals}
 use Rattle.sets.specs.declared.facts.LiteralSet.{LiteralSet}
-use Rattle.std.proofs.lemmas.Bool.{cases_Bool, and_parts, and_from, cond-true, cond-false, le-leb}
+use Rattle.std.proofs.lemmas.Bool.Decides.{nat_tests}
+use Rattle.std.proofs.lemmas.Bool.{cases_Bool, and_parts, cond-true, cond-false}
 use Rattle.model.specs.declared.cell.Cell.{Cell}
 use Rattle.model.specs.declared.table.ProblemTable.{ProblemTable}
 use Rattle.model.specs.Problems.{Problem, WellFormed, steps}
@@ -67,14 +68,14 @@ means_kept ix p rows V e w = record {
 ordered_none : (m : ℕ) (order : List Cell) → Ordered 0 m (places_in order)
 ordered_none m order = record {
   place_below = λ c r q. absurd (omega arith);
-  cell_below = λ k h. absurd (let z : 0 * m ≡ 0 = zero-mul m in omega arith);
+  cell_below = λ k h. absurd (omega (arith, zero-mul m));
   cell_of_place = λ c r q. absurd (omega arith);
-  place_of_cell = λ k h. absurd (let z : 0 * m ≡ 0 = zero-mul m in omega arith);
+  place_of_cell = λ k h. absurd (omega (arith, zero-mul m));
 }
 
 pinned_not : (x : Pin) → x ≡ unpinned → (x ≡ take) ⊎ (x ≡ leave) → ⊥
-pinned_not x e (inl h) = let z : ◌≡◌ {A = ℕ} 0 1 = cc in omega arith
-pinned_not x e (inr h) = let z : ◌≡◌ {A = ℕ} 0 1 = cc in omega arith
+pinned_not x e (inl h) = cc
+pinned_not x e (inr h) = cc
 
 pub range_none : (pins : Pins) (T m : ℕ) → ((t o : ℕ) → pins t o ≡ unpinned) → InRange pins T m
 range_none pins T m free t o h = absurd (pinned_not (pins t o) (free t o) h)
@@ -114,4 +115,4 @@ module _ (s : Search) where
 
 -- an order that fits its table
 pub fits_true : (T m n : ℕ) → T ≤ 32 → m ≤ 256 → T * m ≤ n → (ranked T m && leb (T * m) n) ≡ true
-fits_true T m n a b c = and_from _ _ (and_from _ _ (le-leb T 32 a) (le-leb m 256 b)) (le-leb (T * m) n c)
+fits_true T m n a b c = grind (arith, nat_tests)

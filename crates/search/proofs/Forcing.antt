@@ -22,7 +22,7 @@ use Rattle.marks.proofs.Meaning.{exactly_tells}
 use Rattle.clauses.specs.Waiting.{kept_in}
 use Rattle.search.specs.declared.tables.Search.{Search}
 
-module _ (p : Problem) (pins : Pins) (V : Clauses) (m : Marks) (k : CellMarks) (c : Cell) (tells : Tells p pins V m) (same : CellsOf m k) where
+module _ {p : Problem} {pins : Pins} {V : Clauses} {m : Marks} {k : CellMarks} (c : Cell) (tells : Tells p pins V m) (same : CellsOf m k) where
   calm : k.conflict ≡ false → Contradiction (Forced p m.length pins V) → ⊥
   calm e x = both_ways m.conflict (sym same.same_conflict ∙ e) (tells.whole x)
 

@@ -38,16 +38,16 @@ module _ {p : Problem} {V : Clauses} {ix : Index} {T : ℕ} {order : List Cell} 
 
   pub shown_contradiction : m.conflict ≡ true → NoneAgrees (Such p T pins) (path_at order ls n)
   shown_contradiction h c w a = ∥∥₁_elim t ⊥_prop
-      (λ s. seen_contradiction p V ix T pins order (path_at order ls n) m s.well s.largest.kept s.means s.ordered s.range s.kept.fair s.long s.rest h c w a)
+      (λ s. seen_contradiction s h c w a)
 
   pub shown_next : m.conflict ≡ false → (k : ℕ) → k < T * steps p → Undecided m (cell_at order k) → Lower m order k
       → Next (Such p T pins) T (steps p) pins (places_in order) (path_at order ls n) (cell_at order k)
   shown_next calm k r u low = ∥∥₁_elim t (next_prop (Such p T pins) T (steps p) (path_at order ls n) pins (places_in order) (cell_at order k))
-      (λ s. seen_undecided p V ix T pins order (path_at order ls n) m s.well s.largest.kept s.means s.ordered s.range s.kept.fair s.long s.rest calm k r u low)
+      (λ s. seen_undecided s calm k r u low)
 
   pub shown_whole : m.conflict ≡ false → Lower m order (T * steps p) → Only (Such p T pins) T (steps p) (path_at order ls n) (taken_by m p T)
   shown_whole calm all = ∥∥₁_elim t (only_prop (Such p T pins) T (steps p) (path_at order ls n) (such_prop p T pins) (taken_by m p T))
-      (λ s. seen_whole p V ix T pins order (path_at order ls n) m s.well s.largest.kept s.means s.ordered s.range s.kept.fair s.long s.rest calm all)
+      (λ s. seen_whole s calm all)
 
   pub shown_ordered : Ordered T (steps p) (places_in order)
   shown_ordered = record {
