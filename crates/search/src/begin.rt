@@ -21,6 +21,7 @@ use model::source::ProblemSource;
 use model::table::ProblemTable;
 
 // Works the marks out from the pins alone, and answers those of the cells.
+// Not a method of Search, whose tables fit together again only once the path is empty, too.
 pub(crate) fn work_out(marks: &mut Marks, index: &Index, pins: &Pins, length: usize) -> CellMarks
     requires { length ≤ 32 }
     ensures begun { Begun index.now (pins_of pins.now) length marks.new }

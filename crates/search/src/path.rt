@@ -16,6 +16,7 @@ pub struct Path {
 }
 
 impl Path {
+    // No choice yet.
     pub(crate) fn empty() -> Path
         ensures { result.depth ≡ 0 }
     {
@@ -29,12 +30,14 @@ impl Path {
         }
     }
 
+    // Takes every level off.
     pub(crate) fn clear(&mut self)
         ensures { self.new.depth ≡ 0 }
     {
         self.depth = 0;
     }
 
+    // Puts a level on; there is room, as a path has no cell twice.
     pub(crate) fn push(&mut self, level: Level)
         requires { self.old.depth < 8192 }
         ensures levels { self.new.levels ≡ slice_set self.old.levels self.old.depth level }
@@ -42,10 +45,10 @@ impl Path {
     {
         let mut path = Stack::resume(&mut self.levels, self.depth);
         let _ = path.push(level);
-        let depth = path.len();
-        self.depth = depth;
+        self.depth = path.len();
     }
 
+    // Takes the newest level off.
     pub(crate) fn pop(&mut self) -> Option<Level>
         ensures levels { self.new.levels ≡ self.old.levels }
         ensures depth { self.new.depth ≡ self.old.depth - 1 }
@@ -53,8 +56,7 @@ impl Path {
     {
         let mut path = Stack::resume(&mut self.levels, self.depth);
         let newest = path.pop();
-        let depth = path.len();
-        self.depth = depth;
+        self.depth = path.len();
         newest
     }
 

@@ -14,6 +14,7 @@ use marks::tables::Marks;
 use model::cell::Cell;
 use model::table::ProblemTable;
 
+// One struct: were the marks and the path apart from what is asked, each function that changes them would require and ensure `Sound`.
 #[derive(Drop)]
 pub struct Search {
     pub(crate) problem: ProblemTable,
