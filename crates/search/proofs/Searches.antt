@@ -76,12 +76,12 @@ module _ (s : Search) where
   long_now : s.marks.length ≡ s.length
   long_now = shown_long s.sound
 
-  path_long : length (path_of s) ≡ s.path.depth
-  path_long = length-map (take s.path.depth s.path.levels) (entry_of s.order) ∙ length-take-le s.path.depth s.path.levels (omega (arith, s.path.deep, s.path.sized))
+  pub path_size : length (path_of s) ≡ s.path.depth
+  path_size = length-map (take s.path.depth s.path.levels) (entry_of s.order) ∙ length-take-le s.path.depth s.path.levels (omega (arith, s.path.deep, s.path.sized))
 
   -- a path that may have one more entry is not full
   pub depth_room : (e : Entry) → Fair s.length (steps (problem_of s.problem)) (pins_of s.pins) (path_of s ++ (e ∷ [])) → s.path.depth < length s.path.levels
-  depth_room e f = omega (arith, few s.length (steps (problem_of s.problem)) (pins_of s.pins) (path_of s ++ (e ∷ [])) f, length-append (path_of s) (e ∷ []), path_long, room, s.path.sized)
+  depth_room e f = omega (arith, few s.length (steps (problem_of s.problem)) (pins_of s.pins) (path_of s ++ (e ∷ [])) f, length-append (path_of s) (e ∷ []), path_size, room, s.path.sized)
 
   -- a choice that fits
   module _ (place : ℕ) (side : Side) (f : Fits s place side) where
@@ -130,10 +130,6 @@ module _ (s : Search) where
         ap (path_at s.order s.path.levels) one ∙ path_suc s.order s.path.levels (s.path.depth - 1) (omega (arith, some, deep))
         ∙ ap (λ (x : Level). path_at s.order s.path.levels (s.path.depth - 1) ++ (entry_of s.order x ∷ [])) (sym top)
         ∙ subst₂ (λ (ls : List Level) (n : ℕ). path_at s.order s.path.levels (s.path.depth - 1) ++ (entry_of s.order l ∷ []) ≡ path_at s.order ls n ++ (entry_of s.order l ∷ [])) (sym e) (sym d) refl
-
-  -- the entries of the path, as the levels spell them
-  pub path_size : length (path_of s) ≡ s.path.depth
-  path_size = path_long
 
   -- a level of the path
   module _ (i : ℕ) (l : Level) (h : i < s.path.depth) (at : l ≡ get_or s.path.levels i no_level) where
