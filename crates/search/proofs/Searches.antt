@@ -1,5 +1,5 @@
 -- What holds of every search. Assumes nothing.
-use Rattle.std.proofs.Common.{◌≡◌, ℕ, suc, ◌+◌, ◌-◌, ◌<◌, ◌≤◌, true, false, List, [], ◌∷◌, ◌++◌, length, get_or, take, set, Some, None, sym, refl, ap, ◌∙◌, subst, subst₂, ⊎_elim, mul-le-mul, arith, length-append}
+use Rattle.std.proofs.Common.{◌≡◌, ℕ, suc, ◌+◌, ◌-◌, ◌<◌, ◌≤◌, true, false, List, [], ◌∷◌, ◌++◌, length, get_or, take, set, Some, None, sym, refl, ap, ◌∙◌, ⊎_elim, mul-le-mul, arith, length-append}
 use Rattle.std.proofs.lemmas.List.{length-take, length-take-le, length-map, take_more_set, get_or-map, get_or-take}
 use Rattle.std.proofs.lemmas.Bool.{cases_lt}
 use Rattle.model.specs.declared.cell.Cell.{Cell}
@@ -89,14 +89,14 @@ module _ (s : Search) where
     fits_room = depth_room (record { cell = cell_at s.order place; side = side }) f.kept.fair
 
     pub fits_time : (cell_at s.order place).time < s.marks.length
-    fits_time = subst (λ (n : ℕ). (cell_at s.order place).time < n) (sym long_now)
+    fits_time = rw long_now
         (last_fair s.length (steps (problem_of s.problem)) (pins_of s.pins) (path_of s) (record { cell = cell_at s.order place; side = side }) f.kept.fair).0
 
     pub chosen : (m' : Marks) (ls' : List Level) (n' : ℕ) → ls' ≡ set s.path.levels s.path.depth (record { place = place; side = side; trail = s.marks.len }) → n' ≡ s.path.depth + 1
         → Decided s.index s.marks (mark_of side (cell_at s.order place)) m'
         → SoundAt s m' ls' n'
     chosen m' ls' n' e q d =
-        subst₂ (SoundAt s m') (sym e) (sym q)
+        rw (e, q)
         (shown_choose s.sound m' (record { place = place; side = side; trail = s.marks.len }) fits_room f.inside f.calm refl f.lower f.kept d)
 
   -- the newest choice
@@ -105,31 +105,29 @@ module _ (s : Search) where
     deep = omega (arith, s.path.deep, s.path.sized)
 
     pub newest_trail : l.trail ≤ s.marks.len
-    newest_trail = subst (λ (x : Level). x.trail ≤ s.marks.len) (sym top) (shown_trail s.sound some deep)
+    newest_trail = rw top (shown_trail s.sound some deep)
 
     pub newest_placed : l.place < cells (asked s)
-    newest_placed = subst (λ (x : Level). x.place < cells (asked s)) (sym top) (shown_placed s.sound (s.path.depth - 1) (omega (arith, some)))
+    newest_placed = rw top (shown_placed s.sound (s.path.depth - 1) (omega (arith, some)))
 
     pub newest_beyond : s.marks.conflict ≡ false → Lower s.marks s.order (l.place + 1)
-    newest_beyond calm = subst (λ (x : Level). Lower s.marks s.order (x.place + 1)) (sym top) (shown_beyond s.sound some deep calm)
+    newest_beyond calm = rw top (shown_beyond s.sound some deep calm)
 
     module _ (m' : Marks) (r : Retreated s.marks l.trail m') where
       back : Retreated s.marks (get_or s.path.levels (s.path.depth - 1) no_level).trail m'
-      back = subst (λ (x : Level). Retreated s.marks x.trail m') top r
+      back = rw (← top) r
 
       pub newest_lower : Lower m' s.order l.place
-      newest_lower = subst (λ (x : Level). Lower m' s.order x.place) (sym top) (shown_lower s.sound some deep m' back)
+      newest_lower = rw top (shown_lower s.sound some deep m' back)
 
       pub undone : (q : Path) → q.levels ≡ s.path.levels → q.depth ≡ s.path.depth - 1 → SoundAt s m' q.levels q.depth
-      undone q e d = subst₂ (SoundAt s m') (sym e) (sym d) (shown_undo s.sound some deep m' back)
+      undone q e d = rw (e, d) (shown_undo s.sound some deep m' back)
 
     -- the path without it
     pub newest_path : (q : Path) → q.levels ≡ s.path.levels → q.depth ≡ s.path.depth - 1 → path_of s ≡ path_at s.order q.levels q.depth ++ (entry_of s.order l ∷ [])
     newest_path q e d =
         let one : s.path.depth ≡ suc (s.path.depth - 1) = omega (arith, some) in
-        ap (path_at s.order s.path.levels) one ∙ path_suc s.order s.path.levels (s.path.depth - 1) (omega (arith, some, deep))
-        ∙ ap (λ (x : Level). path_at s.order s.path.levels (s.path.depth - 1) ++ (entry_of s.order x ∷ [])) (sym top)
-        ∙ subst₂ (λ (ls : List Level) (n : ℕ). path_at s.order s.path.levels (s.path.depth - 1) ++ (entry_of s.order l ∷ []) ≡ path_at s.order ls n ++ (entry_of s.order l ∷ [])) (sym e) (sym d) refl
+        rw (e, d, top) (ap (path_at s.order s.path.levels) one ∙ path_suc s.order s.path.levels (s.path.depth - 1) (omega (arith, some, deep)))
 
   -- a level of the path
   module _ (i : ℕ) (l : Level) (h : i < s.path.depth) (at : l ≡ get_or s.path.levels i no_level) where
@@ -140,4 +138,4 @@ module _ (s : Search) where
         ∙ sym (get_or-map (entry_of s.order) (take s.path.depth s.path.levels) i no_level no_entry long ∙ ap (entry_of s.order) (get_or-take s.path.depth s.path.levels i no_level h))
 
     pub place_small : l.place < 8192
-    place_small = subst (λ (x : Level). x.place < 8192) (sym at) (omega (arith, room, shown_placed s.sound i h))
+    place_small = rw at (omega (arith, room, shown_placed s.sound i h))

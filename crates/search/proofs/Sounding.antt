@@ -20,7 +20,7 @@ use Rattle.marks.specs.declared.tables.Marks.{Marks}
 use Rattle.marks.specs.declared.index.Index.{Index}
 use Rattle.marks.specs.declared.cells.CellMarks.{CellMarks}
 use Rattle.marks.specs.Grows.{on, Grows, Retreated}
-use Rattle.marks.specs.Rules.{Rest, seeds}
+use Rattle.marks.specs.Rules.{seeds}
 use Rattle.marks.specs.Cells.{CellsOf}
 use Rattle.marks.specs.Deciding.{mark_of, Decided, Begun}
 use Rattle.marks.specs.Pinning.{says_take, says_leave}
@@ -72,7 +72,7 @@ module _ {p : Problem} {V : Clauses} {ix : Index} {T : ℕ} {order : List Cell} 
     range = s.range;
     rooted = s.rooted;
     long = d.grows.same_length ∙ s.long;
-    rest = subst (λ (path : List Entry). Rest ix (seeds ix (with_path pins path) T) m') (sym path')
+    rest = rw path'
         (d.rest (seeds ix (with_path pins old) T) (seeds ix (with_path pins (old ++ (entry_of order l ∷ []))) T)
         (one_more ix T pins old (cell_at order l.place) l.side fair.0 (with_absent pins old (cell_at order l.place) fair.3 ∙ fair.2))
         s.rest);
@@ -80,18 +80,17 @@ module _ {p : Problem} {V : Clauses} {ix : Index} {T : ℕ} {order : List Cell} 
       m,
       calm,
       s.long,
-      sym trail ∙ ap (λ (x : Level). x.trail) (sym same),
-      subst (λ (path : List Entry). Rest ix (seeds ix (with_path pins path) T) m) (sym (path_set order ls n n l (omega arith))) s.rest,
-      subst (λ (x : Level). Lower m order x.place) (sym same) low,
+      rw same (sym trail),
+      rw (path_set order ls n n l (omega arith)) s.rest,
+      rw same low,
       d.grows,
       levels_set ix T pins order ls n l n m (omega arith) s.levels,
     );
     placed = λ k h. ⊎_elim
-        (λ (e : k ≡ n). subst (λ (x : Level). x.place < T * steps p) (sym (ap (λ (i : ℕ). get_or (set ls n l) i no_level) e ∙ same)) inside)
-        (λ (ne : k ≢ n). let off : get_or (set ls n l) k no_level ≡ get_or ls k no_level = rw get_or-set_other in
-        subst (λ (x : Level). x.place < T * steps p) (sym off) (s.placed k (omega arith)))
+        (λ (e : k ≡ n). rw (e, same) inside)
+        (λ (ne : k ≢ n). rw get_or-set_other (s.placed k (omega arith)))
         (cases_eq k n);
-    kept = subst (Kept (Such p T pins) T (steps p) pins (places_in order)) (sym path') kept;
+    kept = rw path' kept;
   }
     where
       old : List Entry
@@ -109,14 +108,14 @@ module _ {p : Problem} {V : Clauses} {ix : Index} {T : ℕ} {order : List Cell} 
   -- the newest choice taken back: the marks are those before it
   module _ {m : Marks} {ls : List Level} {n : ℕ} (s : Sound p V ix T order pins root m ls (suc n)) (room : n < length ls) where
     pub trail_within : (get_or ls n no_level).trail ≤ m.len
-    trail_within = subst (λ (k : ℕ). k ≤ m.len) s.levels.3 s.levels.6.longer
+    trail_within = omega (arith, s.levels.3, s.levels.6.longer)
 
     pub undo_path : path_at order ls (suc n) ≡ path_at order ls n ++ (entry_of order (get_or ls n no_level) ∷ [])
     undo_path = path_suc order ls n room
 
     module _ {m' : Marks} (r : Retreated m (get_or ls n no_level).trail m') where
       back : Retreated m s.levels.0.len m'
-      back = subst (λ (k : ℕ). Retreated m k m') (sym s.levels.3) r
+      back = rw s.levels.3 r
 
       grown : Grows s.levels.0 m'
       grown = grows_back s.levels.0 m m' s.levels.1 s.levels.6 back
