@@ -1,5 +1,5 @@
 -- A search as it begins. Assumes nothing.
-use Rattle.std.proofs.Common.{◌≡◌, ℕ, ◌*◌, ◌<◌, ◌≤◌, true, ◌&&◌, ltb, leb, ◌⊎◌, List, get_or, sym, ◌∙◌, subst, inl, inr, ⊎_elim, zero-mul, arith}
+use Rattle.std.proofs.Common.{◌≡◌, ℕ, ◌*◌, ◌<◌, ◌≤◌, true, ◌&&◌, ltb, leb, ◌⊎◌, List, get_or, sym, ◌∙◌, inl, inr, ⊎_elim, zero-mul, arith}
 use mathlib.Core.Logic.{∥∥₁_map, ∥∥₁_elim}
 use native.Mathlib.Bridge.{le_prop}
 use Rattle.sets.specs.Literals.{Literal, lit, code}
@@ -85,7 +85,7 @@ pub range_with : (pins new : Pins) (T m : ℕ) (c : Cell) (pin : Pin) → ((c.ti
     → ((t o : ℕ) → new t o ≡ with_pin pins c pin t o) → InRange new T m
 range_with pins new T m c pin inside r w t o h = ⊎_elim
     (λ b. let e = w t o ∙ cond-true _ _ _ b in ⊎_elim
-    (λ i. let q = at_cell c t o (and_parts (ltb c.time 32) (is_cell c t o) b).1 in (subst (λ (u : ℕ). u < T) q.0 i.0, subst (λ (u : ℕ). u < m) q.1 i.1))
+    (λ i. let q = at_cell c t o (and_parts (ltb c.time 32) (is_cell c t o) b).1 in (omega (arith, q.0, i.0), omega (arith, q.1, i.1)))
     (λ u. absurd (pinned_not (new t o) (e ∙ u) h)) inside)
     (λ b. let e = w t o ∙ cond-false _ _ _ b in r t o (⊎_elim (λ k. inl (sym e ∙ k)) (λ k. inr (sym e ∙ k)) h))
     (cases_Bool (ltb c.time 32 && is_cell c t o))

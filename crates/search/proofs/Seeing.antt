@@ -1,5 +1,5 @@
 -- What marks at rest say of the plans that agree with the path. Assumes nothing.
-use Rattle.std.proofs.Common.{◌≡◌, ℕ, ◌*◌, ◌<◌, Bool, true, false, ◌&&◌, ◌⊎◌, List, [], ◌∷◌, sym, refl, ap, ◌∙◌, subst, inl, inr, ⊎_elim}
+use Rattle.std.proofs.Common.{◌≡◌, ℕ, ◌*◌, ◌<◌, Bool, true, false, ◌&&◌, ◌⊎◌, List, [], ◌∷◌, sym, refl, ap, ◌∙◌, subst, inl, inr, ⊎_elim, arith}
 use Rattle.std.proofs.lemmas.Bool.{both_ways, cases_Bool, cond-true, cond-false, and_from, or_cases, or_right, not-true, lt-ltb}
 use Rattle.model.specs.declared.cell.Cell.{Cell}
 use Rattle.model.specs.declared.path.Side.{Side}
@@ -38,7 +38,7 @@ use Rattle.search.proofs.PinnedPath.{keeps_with, with_keeps, at_cell, own_cell}
 pub path_in_range : (T m : ℕ) (pins : Pins) (path : List Entry) → InRange pins T m → Fair T m pins path → InRange (with_path pins path) T m
 path_in_range T m pins [] r f t o h = r t o h
 path_in_range T m pins (e ∷ path) r f t o h = ⊎_elim
-    (λ k. let q = at_cell e.cell t o k in (subst (λ (u : ℕ). u < T) q.0 f.0, subst (λ (u : ℕ). u < m) q.1 f.1))
+    (λ k. let q = at_cell e.cell t o k in (omega (arith, q.0, f.0), omega (arith, q.1, f.1)))
     (λ k. path_in_range T m pins path r f.4 t o
     (⊎_elim (λ a. inl (sym (cond-false _ _ _ k) ∙ a)) (λ a. inr (sym (cond-false _ _ _ k) ∙ a)) h))
     (cases_Bool (is_cell e.cell t o))
@@ -73,7 +73,7 @@ module _ {p : Problem} {V : Clauses} {ix : Index} {T : ℕ} {order : List Cell} 
 
   exact : Exactly ix (seeds ix places m.length) m
   unfolding places
-  exact = subst (λ (n : ℕ). Exactly ix (seeds ix places n) m) (sym held.long) held.rest.exact
+  exact = simp held.long held.rest.exact
 
   within : Within places (steps p)
   within t o h = (ranged t o h).1
@@ -82,7 +82,7 @@ module _ {p : Problem} {V : Clauses} {ix : Index} {T : ℕ} {order : List Cell} 
   tells = exactly_tells ix p places V m held.means within exact
 
   sound : (x : MarkOf) → on m (encode x) ≡ true → ForcedBy p T places V x
-  sound x h = subst (λ (n : ℕ). ForcedBy p n places V x) held.long (tells.sound x h)
+  sound x h = simp held.long at (tells.sound x h)
 
   -- what the pins and the path say has its mark
   seeded : m.conflict ≡ false → (x : MarkOf) → seeds ix places T (encode x) ≡ true → on m (encode x) ≡ true
@@ -94,7 +94,7 @@ module _ {p : Problem} {V : Clauses} {ix : Index} {T : ℕ} {order : List Cell} 
   pub seen_contradiction : m.conflict ≡ true → NoneAgrees (Such p T pins) path
   unfolding places
   seen_contradiction h c s a =
-      contradiction_none p T places V held.well held.largest.kept (subst (λ (n : ℕ). ContradictionOf (ForcedBy p n places V)) held.long (tells.broken h)) c s.plan (keeps_with pins c path s.keeps a)
+      contradiction_none p T places V held.well held.largest.kept (rw held.long at (tells.broken h)) c s.plan (keeps_with pins c path s.keeps a)
 
   -- ---- a cell that has a mark
 
@@ -132,7 +132,7 @@ module _ {p : Problem} {V : Clauses} {ix : Index} {T : ℕ} {order : List Cell} 
     in_count = inside.1;
     free = apart.1;
     absent = apart.0;
-    lower = λ d a b h. let q : (places_in order).place d < k = subst (λ (n : ℕ). (places_in order).place d < n) (held.ordered.place_of_cell k r) h in
+    lower = λ d a b h. let q : (places_in order).place d < k = rw (held.ordered.place_of_cell k r) at h in
         subst (Decided (Such p T pins) path) (held.ordered.cell_of_place d a b) (told_decided (cell_at order ((places_in order).place d)) (low ((places_in order).place d) q));
   }
     where
@@ -159,8 +159,7 @@ module _ {p : Problem} {V : Clauses} {ix : Index} {T : ℕ} {order : List Cell} 
     agree (inr h) = never_both h.0 h.1 h.2 h.3
 
     frame : Frame p T places (λ x. on m (encode x) ≡ true)
-    frame = subst (λ (n : ℕ). Frame p n places (λ x. on m (encode x) ≡ true)) held.long
-        (rest_closed ix p places V (seeds ix places m.length) m held.means within exact calm (λ y h. h)).frame
+    frame = simp held.long at (rest_closed ix p places V (seeds ix places m.length) m held.means within exact calm (λ y h. h)).frame
 
     plan : IsPlan p T (taken_by m p T) × Keeps places (taken_by m p T)
     plan = marks_plan p T places (λ x. on m (encode x)) held.well (λ t o e. ranged t o (inl e)) frame told_at agree
