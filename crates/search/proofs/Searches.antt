@@ -1,6 +1,6 @@
 -- What holds of every search. Assumes nothing.
-use Rattle.std.proofs.Common.{◌≡◌, ℕ, suc, ◌+◌, ◌-◌, ◌<◌, ◌≤◌, true, false, List, [], ◌∷◌, ◌++◌, length, get_or, take, set, Some, None, sym, refl, ap, ◌∙◌, ⊎_elim, mul-le-mul, arith, length-append}
-use Rattle.std.proofs.lemmas.List.{length-take, length-take-le, length-map, take_more_set, get_or-map, get_or-take}
+use Rattle.std.proofs.Common.{◌≡◌, ℕ, suc, ◌+◌, ◌-◌, ◌<◌, ◌≤◌, true, false, List, [], ◌∷◌, ◌++◌, length, get_or, take, set, Some, None, refl, ap, ◌∙◌, ⊎_elim, mul-le-mul, arith, length-append}
+use Rattle.std.proofs.lemmas.List.{length-take, length-take-le, length-map}
 use Rattle.std.proofs.lemmas.Bool.{cases_lt}
 use Rattle.model.specs.declared.cell.Cell.{Cell}
 use Rattle.model.specs.declared.path.Entry.{Entry}
@@ -23,9 +23,9 @@ use Rattle.search.specs.declared.path.Path.{Path}
 use Rattle.search.specs.declared.tables.Search.{Search}
 use Rattle.search.specs.Levels.{cell_at, no_level, entry_of, path_at, told, Lower, taken_by}
 use Rattle.search.specs.Sound.{Sound}
-use Rattle.search.specs.Looks.{asked, cells, Wanted, path_of, KeptFor, Opens, Choosable, Fits, no_entry}
+use Rattle.search.specs.Looks.{asked, cells, Wanted, path_of, KeptFor, Opens, Choosable, Fits}
 use Rattle.search.proofs.Sounding.{last_fair}
-use Rattle.search.proofs.Stepping.{path_more, path_suc}
+use Rattle.search.proofs.Stepping.{path_suc}
 use Rattle.search.proofs.Shown.{shown_kept, shown_contradiction, shown_next, shown_whole, shown_first, shown_long, shown_placed, shown_beyond, shown_trail, shown_lower, shown_undo, shown_choose}
 
 -- what a search keeps true, of other marks and levels
@@ -37,11 +37,6 @@ few_rows t = omega (arith, length-take t.count t.steps, t.few_steps)
 
 lower_more : (m : Marks) (order : List Cell) (from k : ℕ) → Lower m order from → ((j : ℕ) → from ≤ j → j < k → told m (cell_at order j) ≡ true) → Lower m order k
 lower_more m order from k low more j h = ⊎_elim (λ l. low j l) (λ l. more j l h) (cases_lt j from)
-
-pub path_pushed : (order : List Cell) (ls ls' : List Level) (n n' : ℕ) (l : Level) → n < length ls → ls' ≡ set ls n l → n' ≡ n + 1
-    → path_at order ls' n' ≡ path_at order ls n ++ (entry_of order l ∷ [])
-path_pushed order ls ls' n n' l h e q = path_more order ls ls' n n' l
-    (ap (λ (k : ℕ). take k ls') q ∙ ap (take (n + 1)) e ∙ take_more_set ls n l h)
 
 module _ (s : Search) where
   pub room : cells (asked s) ≤ 8192
@@ -131,11 +126,5 @@ module _ (s : Search) where
 
   -- a level of the path
   module _ (i : ℕ) (l : Level) (h : i < s.path.depth) (at : l ≡ get_or s.path.levels i no_level) where
-    pub entry_at : entry_of s.order l ≡ get_or (path_of s) i no_entry
-    entry_at =
-        let long : i < length (take s.path.depth s.path.levels) = omega (arith, h, length-take-le s.path.depth s.path.levels (omega (arith, s.path.deep, s.path.sized))) in
-        ap (entry_of s.order) at
-        ∙ sym (get_or-map (entry_of s.order) (take s.path.depth s.path.levels) i no_level no_entry long ∙ ap (entry_of s.order) (get_or-take s.path.depth s.path.levels i no_level h))
-
     pub place_small : l.place < 8192
     place_small = rw at (omega (arith, room, shown_placed s.sound i h))

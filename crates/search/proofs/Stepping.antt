@@ -17,9 +17,6 @@ use Rattle.search.specs.Levels.{cell_at, no_level, entry_of, path_at, told, Lowe
 
 -- ---- the path
 
-pub path_none : (order : List Cell) (ls : List Level) {n : ℕ} → n ≡ 0 → path_at order ls n ≡ []
-path_none order ls none = ap (path_at order ls) none
-
 pub path_more : (order : List Cell) (ls ls' : List Level) (n n' : ℕ) (l : Level) → take n' ls' ≡ take n ls ++ (l ∷ [])
     → path_at order ls' n' ≡ path_at order ls n ++ (entry_of order l ∷ [])
 path_more order ls ls' n n' l h = ap (map (entry_of order)) h ∙ map-append (entry_of order) (take n ls) (l ∷ [])

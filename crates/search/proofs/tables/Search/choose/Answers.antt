@@ -1,9 +1,6 @@
 use Rattle.std.proofs.Common.{set, ap, ◌∙◌, arith}
-use Rattle.search.proofs.Searches.{room, fits_room, fits_time, chosen, path_pushed}
+use Rattle.search.proofs.Searches.{fits_room, fits_time, chosen}
 use Rattle.search.proofs.tables.Search.choose.Goals as goal
-
-pub bounds-self-place : goal.bounds-self-place
-bounds-self-place c = omega (arith, c.requires.inside, room c.args.self.now)
 
 pub push-requires : goal.push-requires
 push-requires c = omega (arith, fits_room c.args.self.now c.args.place c.args.side c.requires)
@@ -14,9 +11,3 @@ invariant_of-self-clause-sound c =
     chosen s c.args.place c.args.side c.requires c.decide.new.self c.push.new.self.levels c.push.new.self.depth
     (c.push.ensures.levels ∙ ap (λ n. set s.path.levels s.path.depth (record { place = c.args.place; side = c.args.side; trail = n })) c.count-trail.ensures)
     c.push.ensures.depth (c.decide.ensures.decided (fits_time s c.args.place c.args.side c.requires))
-
-pub returns-clause-more : goal.returns-clause-more
-returns-clause-more c =
-    let s = c.args.self.now in
-    path_pushed s.order s.path.levels c.push.new.self.levels s.path.depth c.push.new.self.depth _
-    (fits_room s c.args.place c.args.side c.requires) c.push.ensures.levels c.push.ensures.depth
