@@ -32,6 +32,14 @@ module _ {A : Type 0} (mem : A → ℕ → Bool) (d : A) (xs : List A) (t i : �
         ∙ ap (λ (b : Bool). mem (get_or xs u d) k && not (b && eqb i k)) (sym (ne_eqb t u e)))
         (cases_eq t u)
 
+-- what holds of each set before place t holds also at t, where x is put there
+pub one_more_set : {A : Type 0} (P : ℕ → A → Type 0) (d : A) (xs : List A) (t : ℕ) (x : A) → t < length xs → ((i : ℕ) → i < t → P i (get_or xs i d)) → P t x
+    → (i : ℕ) → i < t + 1 → P i (get_or (set xs t x) i d)
+one_more_set P d xs t x room before here i h = ⊎_elim
+    (λ (e : t ≡ i). subst (λ (k : ℕ). P k (get_or (set xs t x) k d)) e (subst (P t) (sym (get_or-set_same xs t x d room)) here))
+    (λ e. subst (P i) (sym (get_or-set_other xs t i x d (λ q. e (sym q)))) (before i (omega arith)))
+    (cases_eq t i)
+
 -- the stack ys of length a over the table xs of which n entries are in use
 module _ {A : Type 0} (xs ys : List A) (n a : ℕ) (fits : n ≤ length xs) (same : ys ≡ xs) (from : a ≡ min n (length xs)) where
   resumed : a ≡ n

@@ -16,12 +16,12 @@ unless : (b : Bool) → (b ≡ true → ⊥) → b ≡ false
 unless b h = ⊎_elim (λ e. absurd (h e)) (λ e. e) (cases_Bool b)
 
 module _ (ix : Index) (m : Marks) (t l : ℕ) (rest : StepSet)
-    (is : (i : ℕ) → step_in rest i ≡ (step_in (get_or ix.makers l no_steps) i && not (step_in (get_or m.left t no_steps) i))) where
+    (is : (i : ℕ) → step_in rest i ≡ (step_in (get_or ix.makers l no_steps) i && not (step_in (get_or m.marked.cells.left t no_steps) i))) where
   in_rest : (o : ℕ) → Maker ix l o → (On m (LeftOut t o) → ⊥) → step_in rest o ≡ true
   in_rest o k h = is o ∙ and_from _ _ k (not_from_false _ (unless _ h))
 
   of_rest : (o : ℕ) → step_in rest o ≡ true → Maker ix l o × (On m (LeftOut t o) → ⊥)
-  of_rest o h = let a = and_parts (step_in (get_or ix.makers l no_steps) o) (not (step_in (get_or m.left t no_steps) o)) (sym (is o) ∙ h) in
+  of_rest o h = let a = and_parts (step_in (get_or ix.makers l no_steps) o) (not (step_in (get_or m.marked.cells.left t no_steps) o)) (sym (is o) ∙ h) in
       (a.0, λ e. both_ways _ (not-true _ a.1) e)
 
   out_of_rest : (o : ℕ) → Maker ix l o → step_in rest o ≡ false → On m (LeftOut t o)

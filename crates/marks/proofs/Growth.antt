@@ -1,12 +1,11 @@
 -- Laws of growth. Assumes nothing.
-use Rattle.std.proofs.Common.{◌≡◌, ℕ, ◌≤◌, Bool, true, false, ◌⊎◌, sym, refl, ap, ◌∙◌, subst, inl, inr, ⊎_elim, arith}
-use Rattle.std.proofs.lemmas.Bool.{cases_Bool, and_parts, leb-true, ltb-true, or_cases, or_left, or_right}
+use Rattle.std.proofs.Common.{◌≡◌, true, ◌⊎◌, sym, refl, ◌∙◌, subst, inl, inr, ⊎_elim, arith}
+use Rattle.std.proofs.lemmas.Bool.{or_cases, or_left, or_right}
 use Rattle.marks.specs.declared.mark.Mark.{Mark}
 use Rattle.marks.specs.declared.tables.Marks.{Marks}
-use Rattle.marks.specs.declared.mark.Mark.TheVariants.{Fact, Taken, LeftOut}
-use Rattle.marks.specs.Tables.{same, opp, ranged}
+use Rattle.marks.specs.Tables.{same, opp}
 use Rattle.marks.specs.Grows.{on, Has, Grows, Put, Added}
-use Rattle.marks.proofs.Trail.{same_is, same_self, find_in}
+use Rattle.marks.proofs.Trail.{same_is, same_self}
 
 pub grows_refl : (a : Marks) → Grows a a
 grows_refl a = record { same_length = refl; longer = omega arith; prefix = λ i h. refl; keeps = λ x h. h; stuck = λ h. h }
@@ -73,21 +72,3 @@ added_rest f back forth = record {
   new = λ y h. ⊎_elim (λ e. inl e) (λ s. inr (forth y s)) (f.new y h);
   why = λ h. ⊎_elim (λ e. inl e) (λ e. inr (e.0, forth e.0 e.1, e.2)) (f.why h);
 }
-
--- ---- a mark beyond the length is not on
-
-pub on_ranged : (m : Marks) (x : Mark) → on m x ≡ true → ranged m.length x ≡ true
-on_ranged m x h = let i = find_in m.trail m.len x (sym (m.listed x) ∙ h) in
-    sym (ap (ranged m.length) i.2) ∙ m.ranged i.0 i.1
-
-unless : (b : Bool) → (b ≡ true → ⊥) → b ≡ false
-unless b h = ⊎_elim (λ e. absurd (h e)) (λ e. e) (cases_Bool b)
-
-pub fact_off : (m : Marks) (t l : ℕ) → 33 ≤ t → on m (Fact t l) ≡ false
-fact_off m t l h = unless _ (λ e. let b = leb-true t m.length (and_parts _ _ (on_ranged m (Fact t l) e)).0 in omega (arith, m.short))
-
-pub taken_off : (m : Marks) (t o : ℕ) → 32 ≤ t → on m (Taken t o) ≡ false
-taken_off m t o h = unless _ (λ e. let b = ltb-true t m.length (and_parts _ _ (on_ranged m (Taken t o) e)).0 in omega (arith, m.short))
-
-pub left_off : (m : Marks) (t o : ℕ) → 32 ≤ t → on m (LeftOut t o) ≡ false
-left_off m t o h = unless _ (λ e. let b = ltb-true t m.length (and_parts _ _ (on_ranged m (LeftOut t o) e)).0 in omega (arith, m.short))

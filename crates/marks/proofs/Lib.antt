@@ -3,6 +3,7 @@ pub mod Growth
 pub mod Empties
 pub mod Changes
 pub mod Pinning
+pub mod Marking
 pub mod Conclude
 pub mod Closure
 pub mod Spread

@@ -7,12 +7,24 @@ use Rattle.sets.specs.Sets.{step_in, lit_in, no_literals, no_steps}
 use Rattle.sets.specs.declared.facts.LiteralSet.{LiteralSet}
 use Rattle.sets.specs.declared.steps.StepSet.{StepSet}
 use Rattle.sets.proofs.Literals.{lit_code, code_lit, opposite_opposite}
-use Rattle.model.specs.Problems.{Problem, steps, step, Interfere, Needs, Makes}
+use Rattle.model.specs.declared.step.Step.{Step}
+use Rattle.model.specs.declared.table.ProblemTable.{ProblemTable}
+use Rattle.model.specs.Held.{problem_of}
+use Rattle.model.specs.Problems.{Problem, closed_step, steps, step, Interfere, Needs, Makes}
+use Rattle.model.proofs.Rows.{row_beyond}
 use Rattle.marks.specs.Tables.{number_in, opp_lit, Transposed}
 use Rattle.marks.specs.Building.{In, RivalsOf}
 use Rattle.marks.specs.Meaning.{clauses_of}
 use Rattle.marks.proofs.Empties.{no_step}
 use Rattle.marks.proofs.Meaning.{lit_opp, code_opp, opp_back, needs_within, makes_within}
+
+-- a table of which each set is a part of its step, beyond the count too
+pub filled : (t : ProblemTable) (part : Step → LiteralSet) (sets : List LiteralSet) → length sets ≡ 256 → part closed_step ≡ no_literals
+    → ((o : ℕ) → o < 256 → get_or sets o no_literals ≡ part (step (problem_of t) o)) → (o : ℕ) → get_or sets o no_literals ≡ part (step (problem_of t) o)
+filled t part sets size none rows o = ⊎_elim (rows o)
+    (λ h. get_or_past sets o no_literals (omega arith)
+    ∙ sym (ap part (row_beyond t.steps t.count o closed_step (omega (arith, t.sized, t.few_steps)) (omega (arith, t.few_steps))) ∙ none))
+    (cases_lt o 256)
 
 -- the tables, one by one
 module _ (needs makes : List LiteralSet) (rivals makers needers : List StepSet) (p : Problem) (few : steps p ≤ 256)

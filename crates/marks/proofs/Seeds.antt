@@ -24,11 +24,11 @@ module _ (ix : Index) (pins : Pins) (T : ℕ) where
   abbrev pub Cells : Mark → Type 0
   Cells y = (t : ℕ) × (t < T) × Pinned ix pins t y
 
-  is_taken : (t o : ℕ) → says_take (pins_of pins t o) ≡ step_in (get_or pins.taken t no_steps) o
-  is_taken t o = said_taken (step_in (get_or pins.taken t no_steps) o) (step_in (get_or pins.left t no_steps) o)
+  is_taken : (t o : ℕ) → says_take (pins_of pins t o) ≡ step_in (get_or pins.cells.taken t no_steps) o
+  is_taken t o = said_taken (step_in (get_or pins.cells.taken t no_steps) o) (step_in (get_or pins.cells.left t no_steps) o)
 
-  is_left : (t o : ℕ) → says_leave (pins_of pins t o) ≡ step_in (get_or pins.left t no_steps) o
-  is_left t o = said_left (step_in (get_or pins.taken t no_steps) o) (step_in (get_or pins.left t no_steps) o) (pins.apart t o)
+  is_left : (t o : ℕ) → says_leave (pins_of pins t o) ≡ step_in (get_or pins.cells.left t no_steps) o
+  is_left t o = said_left (step_in (get_or pins.cells.taken t no_steps) o) (step_in (get_or pins.cells.left t no_steps) o) (pins.apart t o)
 
   pub seeds_split : (y : Mark) → Given y ≡ true → Holds ix.start 0 y ⊎ (Holds ix.goal T y ⊎ Cells y)
   seeds_split (Fact t l) h = ⊎_elim

@@ -1,24 +1,37 @@
--- The marks of the cells, apart from their trail. Assumes nothing.
-use Rattle.std.specs.Prelude.{◌≡◌, ◌<◌, Bool, false, slice_index_or}
+-- The sides of cells in tables. Assumes nothing.
+use Rattle.std.specs.Prelude.{◌≡◌, ℕ, Bool, true, false, List, Option, MatchOption, slice_index_or}
 use Rattle.sets.specs.Sets.{step_in, no_steps}
+use Rattle.sets.specs.declared.steps.StepSet.{StepSet}
 use Rattle.model.specs.declared.cell.Cell.{Cell}
 use Rattle.model.specs.declared.path.Side.{Side}
 use Rattle.model.specs.declared.path.Side.TheVariants.{LeftOut, Taken}
 use Rattle.marks.specs.declared.tables.Marks.{Marks}
-use Rattle.marks.specs.declared.cells.CellMarks.{CellMarks}
+use Rattle.marks.specs.declared.cells.CellSides.{CellSides}
 
--- they are those of the marks
-pub record CellsOf (m : Marks) (c : CellMarks) : Type 0 where
-  pub same_taken : c.taken ≡ m.taken
-  pub same_left : c.left ≡ m.left
-  pub same_conflict : c.conflict ≡ m.conflict
+-- by time, the steps on a side
+abbrev pub table_of : CellSides → Side → List StepSet
+table_of k Taken = k.taken
+table_of k LeftOut = k.left
 
--- whether the cell has the mark of a side
-abbrev pub said : CellMarks → Side → Cell → Bool
-said k Taken c = step_in (slice_index_or k.taken c.time no_steps) c.step
-said k LeftOut c = step_in (slice_index_or k.left c.time no_steps) c.step
+-- whether step o is on a side at time t
+abbrev pub side_in : CellSides → Side → ℕ → ℕ → Bool
+side_in k s t o = step_in (slice_index_or (table_of k s) t no_steps) o
 
--- the cell, of a time below 32, has no mark
-pub record Unsaid (k : CellMarks) (c : Cell) : Type 0 where
-  pub not_taken : c.time < 32 → said k Taken c ≡ false
-  pub not_left : c.time < 32 → said k LeftOut c ≡ false
+-- whether the cell is on a side
+abbrev pub said : CellSides → Side → Cell → Bool
+said k s c = side_in k s c.time c.step
+
+-- the cell is on no side
+pub record Unsaid (k : CellSides) (c : Cell) : Type 0 where
+  pub not_taken : said k Taken c ≡ false
+  pub not_left : said k LeftOut c ≡ false
+
+abbrev pub same_side : Side → Side → Bool
+same_side Taken Taken = true
+same_side Taken LeftOut = false
+same_side LeftOut Taken = false
+same_side LeftOut LeftOut = true
+
+-- the sides that the marks have of the cells, or none where the marks contradict
+abbrev pub CellsOf : Marks → Option CellSides → Type 0
+CellsOf m r = MatchOption r (m.conflict ≡ true) (λ k. (m.conflict ≡ false) × (k ≡ m.marked.cells))

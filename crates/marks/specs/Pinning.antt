@@ -9,7 +9,7 @@ use Rattle.marks.specs.declared.pins.Pins.{Pins}
 
 -- taken where the table of the taken has the cell, left out where the other has it; no cell is in both
 abbrev pub pins_of : Pins → PinsOf
-pins_of pins = λ t o. cond (step_in (slice_index_or pins.taken t no_steps) o) take (cond (step_in (slice_index_or pins.left t no_steps) o) leave unpinned)
+pins_of pins = λ t o. cond (step_in (slice_index_or pins.cells.taken t no_steps) o) take (cond (step_in (slice_index_or pins.cells.left t no_steps) o) leave unpinned)
 
 abbrev pub pin_of : Side → Pin
 pin_of Taken = take

@@ -136,7 +136,7 @@ seeds ix places T (LeftOut t o) = nat_lt t T && (step_in ix.closed o || says_lea
 
 -- the marks given for the cells of one time
 abbrev pub Pinned : Index → Pins → ℕ → Mark → Type 0
-Pinned ix pins t y = LeavesOut ix.closed t y ⊎ (LeavesOut (slice_index_or pins.left t no_steps) t y ⊎ Takes (slice_index_or pins.taken t no_steps) t y)
+Pinned ix pins t y = LeavesOut ix.closed t y ⊎ (LeavesOut (slice_index_or pins.cells.left t no_steps) t y ⊎ Takes (slice_index_or pins.cells.taken t no_steps) t y)
 
 -- the seeds and one mark more
 pub record OneMore (seed : Mark → Bool) (x : Mark) (more : Mark → Bool) : Type 0 where

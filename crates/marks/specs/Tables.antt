@@ -4,6 +4,8 @@ use Rattle.sets.specs.Literals.{lit, code, opposite}
 use Rattle.sets.specs.Sets.{step_in, lit_in, no_literals, no_steps}
 use Rattle.sets.specs.declared.facts.LiteralSet.{LiteralSet}
 use Rattle.sets.specs.declared.steps.StepSet.{StepSet}
+use Rattle.marks.specs.declared.cells.CellSides.{CellSides}
+use Rattle.marks.specs.declared.marked.Marked.{Marked}
 use Rattle.marks.specs.declared.mark.Mark.{Mark}
 use Rattle.marks.specs.declared.mark.Mark.TheVariants.{Fact, Taken, LeftOut}
 
@@ -40,10 +42,13 @@ ranged T (Taken t o) = nat_lt t T && nat_lt o 256
 ranged T (LeftOut t o) = nat_lt t T && nat_lt o 256
 
 -- whether the tables have a mark on
-abbrev pub on_in : List LiteralSet → List StepSet → List StepSet → Mark → Bool
-on_in facts taken left (Fact t l) = number_in (slice_index_or facts t no_literals) l
-on_in facts taken left (Taken t o) = step_in (slice_index_or taken t no_steps) o
-on_in facts taken left (LeftOut t o) = step_in (slice_index_or left t no_steps) o
+abbrev pub on_in : List LiteralSet → CellSides → Mark → Bool
+on_in facts cells (Fact t l) = number_in (slice_index_or facts t no_literals) l
+on_in facts cells (Taken t o) = step_in (slice_index_or cells.taken t no_steps) o
+on_in facts cells (LeftOut t o) = step_in (slice_index_or cells.left t no_steps) o
+
+abbrev pub marked_in : Marked → Mark → Bool
+marked_in k x = on_in k.facts k.cells x
 
 abbrev pub mark_at : List Mark → ℕ → Mark
 mark_at trail i = slice_index_or trail i (Fact 0 0)
@@ -60,8 +65,8 @@ slot (Taken t o) = 2112 + (t * 256 + o)
 slot (LeftOut t o) = 2112 + (t * 256 + o)
 
 -- a mark is on exactly when it stands in the trail
-abbrev pub Listed : List LiteralSet → List StepSet → List StepSet → List Mark → ℕ → Type 0
-Listed facts taken left trail len = (x : Mark) → on_in facts taken left x ≡ in_trail trail len x
+abbrev pub Listed : Marked → List Mark → ℕ → Type 0
+Listed k trail len = (x : Mark) → marked_in k x ≡ in_trail trail len x
 
 abbrev pub AllRanged : ℕ → List Mark → ℕ → Type 0
 AllRanged T trail len = (i : ℕ) → i < len → ranged T (mark_at trail i) ≡ true
@@ -74,6 +79,6 @@ Apart trail len = (i j : ℕ) → i < j → j < len → slot (mark_at trail i) �
 abbrev pub Transposed : List LiteralSet → List StepSet → Type 0
 Transposed rows columns = (i l : ℕ) → number_in (slice_index_or rows i no_literals) l ≡ step_in (slice_index_or columns l no_steps) i
 
--- no cell stands in both tables
-abbrev pub Disjoint : List StepSet → List StepSet → Type 0
-Disjoint taken left = (t o : ℕ) → step_in (slice_index_or taken t no_steps) o ≡ true → step_in (slice_index_or left t no_steps) o ≢ true
+-- no cell is on both sides
+abbrev pub Disjoint : CellSides → Type 0
+Disjoint k = (t o : ℕ) → step_in (slice_index_or k.taken t no_steps) o ≡ true → step_in (slice_index_or k.left t no_steps) o ≢ true

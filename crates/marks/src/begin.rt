@@ -3,16 +3,17 @@ ghost use Rattle.std.specs.Prelude.{◌≡◌, ℕ, ◌<◌, ◌≤◌, Bool, tr
 ghost use Rattle.marks.specs.Grows.{on, Added};
 ghost use Rattle.marks.specs.Rules.{Pinned, seeds};
 ghost use Rattle.marks.specs.Pinning.{pins_of};
+ghost use Rattle.marks.specs.Cells.{CellsOf};
 ghost use Rattle.marks.specs.Deciding.{mark_of, Undecided, Begun};
 
+use crate::cells::CellSides;
 use crate::index::Index;
 use crate::mark::Mark;
+use crate::marked::Marked;
 use crate::pins::Pins;
 use crate::tables::Marks;
 use model::cell::Cell;
 use model::path::Side;
-use sets::facts::LiteralSet;
-use sets::steps::StepSet;
 
 impl Marks {
     // No marks, of length 0.
@@ -23,9 +24,7 @@ impl Marks {
     {
         Marks {
             length: 0,
-            facts: [LiteralSet::empty(); 33],
-            taken: [StepSet::empty(); 32],
-            left: [StepSet::empty(); 32],
+            marked: Marked::none(),
             conflict: false,
             trail: [Mark::Fact(0, 0); 10304],
             len: 0,
@@ -51,13 +50,25 @@ impl Marks {
     pub fn decided(&self, cell: Cell) -> Option<Side>
         ensures { MatchOption result (Undecided self.now cell) (λ s. on self.now (mark_of s cell) ≡ true) }
     {
-        if self.is_on(Mark::Taken(cell.time, cell.step)) {
-            return Some(Side::Taken);
+        self.marked.cells.get(cell)
+    }
+
+    // The sides that the marks have of the cells.
+    pub fn cells(&self) -> CellSides
+        ensures { result ≡ self.now.marked.cells }
+    {
+        self.marked.cells
+    }
+
+    // The same, or none where the marks contradict.
+    pub fn calm_cells(&self) -> Option<CellSides>
+        ensures { CellsOf self.now result }
+    {
+        if self.conflict {
+            None
+        } else {
+            Some(self.marked.cells)
         }
-        if self.is_on(Mark::LeftOut(cell.time, cell.step)) {
-            return Some(Side::LeftOut);
-        }
-        None
     }
 
     // Takes all marks away, for another length.
@@ -69,9 +80,7 @@ impl Marks {
         ensures calm { self.new.conflict ≡ false }
     {
         self.length = length;
-        self.facts = [LiteralSet::empty(); 33];
-        self.taken = [StepSet::empty(); 32];
-        self.left = [StepSet::empty(); 32];
+        self.marked = Marked::none();
         self.conflict = false;
         self.len = 0;
         self.head = 0;
@@ -83,8 +92,8 @@ impl Marks {
         ensures { Added self.old (Pinned ix.now pins.now t) self.new }
     {
         self.leave_all(t, ix.closed);
-        self.leave_all(t, pins.left[t]);
-        self.take_all(t, pins.taken[t]);
+        self.leave_all(t, pins.cells.left[t]);
+        self.take_all(t, pins.cells.taken[t]);
     }
 
     // Puts in what is given for all cells.

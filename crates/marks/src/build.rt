@@ -8,41 +8,23 @@ ghost use Rattle.marks.specs.Building.{Small, Columned, Gathered, RivalsOf, Clos
 ghost use Rattle.marks.specs.Meaning.{Means, clauses_of};
 
 use crate::index::Index;
-use crate::put::{enter, opposite_literal};
+use crate::mark::opposite_literal;
+use crate::put::enter;
 use model::source::ProblemSource;
+use model::step::Step;
 use model::table::ProblemTable;
 use sets::facts::{FactSet, LiteralSet};
 use sets::steps::StepSet;
 
-// By step, its needs.
-fn fill_needs(problem: &ProblemTable, rows: &mut [LiteralSet; 256])
-    ensures { (o : ℕ) → slice_index_or rows.new o no_literals ≡ (step (problem_of problem.now) o).needs }
+// By step, a set of literals of it.
+fn fill<F: Fn(Step) -> LiteralSet>(problem: &ProblemTable, part: F, rows: &mut [LiteralSet; 256])
+    requires { F.IsAlwaysCallable part }
+    ensures sized { length rows.new ≡ 256 }
+    ensures rows { (o : ℕ) → o < 256 → F.post part (step (problem_of problem.now) o) (slice_index_or rows.new o no_literals) }
 {
-    for o in 0..256 {
-        let row = problem.step(o);
-        rows[o] = row.needs;
+    for (o, row) in rows.iter_mut().enumerate() {
+        *row = part(problem.step(o));
     }
-}
-
-// By step, its makes.
-fn fill_makes(problem: &ProblemTable, rows: &mut [LiteralSet; 256])
-    ensures { (o : ℕ) → slice_index_or rows.new o no_literals ≡ (step (problem_of problem.now) o).makes }
-{
-    for o in 0..256 {
-        let row = problem.step(o);
-        rows[o] = row.makes;
-    }
-}
-
-// The set with `o` in it, unless it is enabled.
-fn close_unless(set: StepSet, o: u8, enabled: bool) -> StepSet
-    ensures { (i : ℕ) → step_in result i ≡ (step_in set i || (i == o && not enabled)) }
-{
-    let mut all = set;
-    if !enabled {
-        all.insert(o);
-    }
-    all
 }
 
 // The steps of the problem that are closed.
@@ -51,8 +33,9 @@ fn closed_steps(problem: &ProblemTable) -> StepSet
 {
     let mut closed = StepSet::empty();
     for o in 0..problem.steps() {
-        let row = problem.step(o);
-        closed = close_unless(closed, o as u8, row.enabled);
+        if !problem.step(o).enabled {
+            closed.insert(o as u8);
+        }
     }
     closed
 }
@@ -84,8 +67,8 @@ fn transpose(rows: &[LiteralSet; 256], columns: &mut [StepSet; 128])
     ensures { Transposed rows.now columns.new }
 {
     *columns = [StepSet::empty(); 128];
-    for o in 0..256 {
-        add_columns(columns, rows[o], o as u8);
+    for (o, row) in rows.iter().enumerate() {
+        add_columns(columns, *row, o as u8);
     }
 }
 
@@ -132,9 +115,8 @@ fn fill_rivals(
     ensures sized { length rivals.new ≡ 256 }
     ensures rows { (o : ℕ) → o < 256 → RivalsOf makers.now needers.now (slice_index_or needs.now o no_literals) (slice_index_or makes.now o no_literals) o (slice_index_or rivals.new o no_steps) }
 {
-    for o in 0..256 {
-        let set = rivals_of(makers, needers, needs[o], makes[o], o as u8);
-        rivals[o] = set;
+    for (o, set) in rivals.iter_mut().enumerate() {
+        *set = rivals_of(makers, needers, needs[o], makes[o], o as u8);
     }
 }
 
@@ -160,8 +142,8 @@ impl Index {
     pub fn build(&mut self, problem: &ProblemTable, kept: &[LiteralSet; 128])
         ensures { Means self.new (problem_of problem.now) (clauses_of kept.now) }
     {
-        fill_needs(problem, &mut self.needs);
-        fill_makes(problem, &mut self.makes);
+        fill(problem, |step| step.needs, &mut self.needs);
+        fill(problem, |step| step.makes, &mut self.makes);
         transpose(&self.needs, &mut self.needers);
         transpose(&self.makes, &mut self.makers);
         fill_rivals(

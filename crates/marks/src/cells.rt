@@ -1,10 +1,13 @@
-// The marks of the cells, apart from their trail.
+// The sides of cells in tables.
+ghost use Rattle.std.specs.Prelude.{◌≡◌, length};
+
 use sets::steps::StepSet;
 
-// By time, the steps that are taken and those that are left out, and whether the marks contradict.
+// By time, the steps that are taken and those that are left out.
 #[derive(Clone, Copy)]
-pub struct CellMarks {
+pub struct CellSides {
     pub(crate) taken: [StepSet; 32],
     pub(crate) left: [StepSet; 32],
-    pub(crate) conflict: bool,
+    ghost all_taken: { length taken ≡ 32 },
+    ghost all_left: { length left ≡ 32 },
 }

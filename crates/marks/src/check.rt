@@ -1,12 +1,11 @@
 // What follows at one time from the marks on a literal and on its makers.
-ghost use Rattle.std.specs.Prelude.{◌≡◌, ℕ, ◌+◌, ◌<◌, ◌≤◌, Bool, true, false, ◌&&◌, ◌||◌};
-ghost use Rattle.marks.specs.Tables.{opp_lit};
-ghost use Rattle.marks.specs.Grows.{on, Ranged, Added};
+ghost use Rattle.std.specs.Prelude.{◌≡◌, ◌<◌, true};
+ghost use Rattle.marks.specs.Grows.{Ranged, Added};
 ghost use Rattle.marks.specs.Rules.{On, Concluded};
 
 use crate::index::Index;
+use crate::literal::Literal;
 use crate::mark::Mark;
-use crate::put::opposite_literal;
 use crate::tables::Marks;
 
 impl Marks {
@@ -21,28 +20,20 @@ impl Marks {
     }
 
     // Works out what follows at `t` from the marks on the literal and on its makers.
-    pub(crate) fn check(&mut self, ix: &Index, t: usize, l: u8)
-        requires { (t < self.old.length) × (l < 128) }
-        ensures { Added self.old (Concluded ix.now (On self.old) t l) self.new }
+    pub(crate) fn check(&mut self, ix: &Index, t: usize, l: Literal)
+        requires { t < self.old.length }
+        ensures { Added self.old (Concluded ix.now (On self.old) t l.number) self.new }
     {
-        let was_false = self.is_on(Mark::Fact(t as u8, opposite_literal(l)));
-        let turns_true = self.is_on(Mark::Fact(t as u8 + 1, l));
-        if was_false || turns_true {
-            self.conclude(ix, t, l, was_false, turns_true);
+        let f = l.opposite();
+        let was_false = self.is_on(Mark::Fact(t as u8, f.number));
+        let turns_true = self.is_on(Mark::Fact(t as u8 + 1, l.number));
+        if !was_false && !turns_true {
+            return;
         }
-    }
-
-    fn conclude(&mut self, ix: &Index, t: usize, l: u8, was_false: bool, turns_true: bool)
-        requires time { t < self.old.length }
-        requires literal { l < 128 }
-        requires before { was_false ≡ on self.old (Mark.Fact t (opp_lit l)) }
-        requires after { turns_true ≡ on self.old (Mark.Fact (t + 1) l) }
-        ensures { Added self.old (Concluded ix.now (On self.old) t l) self.new }
-    {
-        let rest = ix.makers[l as usize].minus(self.left[t]);
+        let rest = ix.makers[l.number as usize].minus(self.marked.cells.left[t]);
         if rest.is_empty() {
-            self.add_if(was_false, Mark::Fact(t as u8 + 1, opposite_literal(l)));
-            self.add_if(turns_true, Mark::Fact(t as u8, l));
+            self.add_if(was_false, Mark::Fact(t as u8 + 1, f.number));
+            self.add_if(turns_true, Mark::Fact(t as u8, l.number));
         } else if was_false && turns_true {
             if let Some(o) = rest.only() {
                 self.add(Mark::Taken(t as u8, o));

@@ -9,16 +9,6 @@ use crate::tables::Marks;
 use model::cell::Cell;
 use model::path::Side;
 
-// The mark that a choice puts on a cell.
-fn choice(cell: Cell, side: Side) -> Mark
-    ensures { result ≡ mark_of side cell }
-{
-    match side {
-        Side::Taken => Mark::Taken(cell.time, cell.step),
-        Side::LeftOut => Mark::LeftOut(cell.time, cell.step),
-    }
-}
-
 impl Marks {
     // Adds one mark to what is given, and works out all that follows.
     fn assume(&mut self, ix: &Index, x: Mark)
@@ -35,7 +25,7 @@ impl Marks {
         ensures idle { self.old.length ≤ cell.time → self.new ≡ self.old }
     {
         if (cell.time as usize) < self.length {
-            self.assume(ix, choice(cell, side));
+            self.assume(ix, Mark::choice(cell, side));
         }
     }
 }

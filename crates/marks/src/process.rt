@@ -6,8 +6,8 @@ ghost use Rattle.marks.specs.Grows.{on, Has, Ranged, Added};
 ghost use Rattle.marks.specs.Rules.{On, Follows, Maker, Needer, Worked, Covers, CoversTaken, CoversLeft, CoversFact, Settled, Good, Rest};
 
 use crate::index::Index;
+use crate::literal::Literal;
 use crate::mark::Mark;
-use crate::put::opposite_literal;
 use crate::tables::Marks;
 use sets::facts::LiteralSet;
 
@@ -20,60 +20,56 @@ impl Marks {
     {
         let mut from = 0;
         while let Some(l) = literals.next_from(from) {
-            self.check(ix, t, l as u8);
+            self.check(ix, t, Literal { number: l as u8 });
             from = l + 1;
         }
     }
 
     // Processes that a step is taken.
-    fn spread_taken(&mut self, ix: &Index, t: usize, o: usize)
+    fn spread_taken(&mut self, ix: &Index, t: usize, o: u8)
         requires time { t < self.old.length }
-        requires step { o < 256 }
         requires there { On self.old (Mark.Taken t o) }
         ensures worked { Worked ix.now self.old self.new }
         ensures covers { CoversTaken ix.now (Has self.new) t o }
     {
-        self.hold_all(t, ix.needs[o]);
-        self.hold_all(t + 1, ix.makes[o]);
-        self.leave_all(t, ix.rivals[o]);
+        self.hold_all(t, ix.needs[o as usize]);
+        self.hold_all(t + 1, ix.makes[o as usize]);
+        self.leave_all(t, ix.rivals[o as usize]);
     }
 
     // Processes that a literal is true at a time, for the steps of that time.
-    fn spread_from(&mut self, ix: &Index, t: usize, l: u8)
-        requires literal { l < 128 }
-        requires there { On self.old (Mark.Fact t l) }
+    fn spread_from(&mut self, ix: &Index, t: usize, l: Literal)
+        requires there { On self.old (Mark.Fact t l.number) }
         ensures worked { Worked ix.now self.old self.new }
-        ensures leaves { t < self.old.length → (o : ℕ) → Needer ix.now (opp_lit l) o → Has self.new (Mark.LeftOut t o) }
-        ensures follows { t < self.old.length → (y : AMark) → Follows ix.now (On self.old) t (opp_lit l) y → Has self.new y }
+        ensures leaves { t < self.old.length → (o : ℕ) → Needer ix.now (opp_lit l.number) o → Has self.new (Mark.LeftOut t o) }
+        ensures follows { t < self.old.length → (y : AMark) → Follows ix.now (On self.old) t (opp_lit l.number) y → Has self.new y }
     {
         if t < self.length {
-            let f = opposite_literal(l);
-            self.leave_all(t, ix.needers[f as usize]);
+            let f = l.opposite();
+            self.leave_all(t, ix.needers[f.number as usize]);
             self.check(ix, t, f);
         }
     }
 
     // Processes that a literal is true at time t + 1, for the steps of time t.
-    fn spread_to(&mut self, ix: &Index, t: usize, l: u8)
+    fn spread_to(&mut self, ix: &Index, t: usize, l: Literal)
         requires time { t < self.old.length }
-        requires literal { l < 128 }
-        requires there { On self.old (Mark.Fact (t + 1) l) }
+        requires there { On self.old (Mark.Fact (t + 1) l.number) }
         ensures worked { Worked ix.now self.old self.new }
-        ensures leaves { (o : ℕ) → Maker ix.now (opp_lit l) o → Has self.new (Mark.LeftOut t o) }
-        ensures follows { (y : AMark) → Follows ix.now (On self.old) t l y → Has self.new y }
+        ensures leaves { (o : ℕ) → Maker ix.now (opp_lit l.number) o → Has self.new (Mark.LeftOut t o) }
+        ensures follows { (y : AMark) → Follows ix.now (On self.old) t l.number y → Has self.new y }
     {
-        self.leave_all(t, ix.makers[opposite_literal(l) as usize]);
+        self.leave_all(t, ix.makers[l.opposite().number as usize]);
         self.check(ix, t, l);
     }
 
     // Processes that a literal is true at a time, for the steps of the time before.
-    fn spread_back(&mut self, ix: &Index, t: usize, l: u8)
+    fn spread_back(&mut self, ix: &Index, t: usize, l: Literal)
         requires time { t ≤ self.old.length }
-        requires literal { l < 128 }
-        requires there { On self.old (Mark.Fact t l) }
+        requires there { On self.old (Mark.Fact t l.number) }
         ensures worked { Worked ix.now self.old self.new }
-        ensures leaves { (u : ℕ) → t ≡ u + 1 → (o : ℕ) → Maker ix.now (opp_lit l) o → Has self.new (Mark.LeftOut u o) }
-        ensures follows { (u : ℕ) → t ≡ u + 1 → (y : AMark) → Follows ix.now (On self.old) u l y → Has self.new y }
+        ensures leaves { (u : ℕ) → t ≡ u + 1 → (o : ℕ) → Maker ix.now (opp_lit l.number) o → Has self.new (Mark.LeftOut u o) }
+        ensures follows { (u : ℕ) → t ≡ u + 1 → (y : AMark) → Follows ix.now (On self.old) u l.number y → Has self.new y }
     {
         if t > 0 {
             self.spread_to(ix, t - 1, l);
@@ -81,16 +77,15 @@ impl Marks {
     }
 
     // Processes that a literal is true at a time.
-    fn spread_fact(&mut self, ix: &Index, t: usize, l: u8)
+    fn spread_fact(&mut self, ix: &Index, t: usize, l: Literal)
         requires time { t ≤ self.old.length }
-        requires literal { l < 128 }
-        requires there { On self.old (Mark.Fact t l) }
+        requires there { On self.old (Mark.Fact t l.number) }
         ensures worked { Worked ix.now self.old self.new }
-        ensures covers { CoversFact ix.now self.old.length (On self.old) (Has self.new) t l }
+        ensures covers { CoversFact ix.now self.old.length (On self.old) (Has self.new) t l.number }
     {
         self.spread_from(ix, t, l);
         self.spread_back(ix, t, l);
-        self.hold_all(t, ix.clauses[opposite_literal(l) as usize]);
+        self.hold_all(t, ix.clauses[l.opposite().number as usize]);
     }
 
     // Processes a mark: afterwards every rule that needs it, and whose other premises were on, has its conclusion on.
@@ -101,8 +96,8 @@ impl Marks {
         ensures covers { Covers ix.now self.old.length (On self.old) (Has self.new) x }
     {
         match x {
-            Mark::Fact(t, l) => self.spread_fact(ix, t as usize, l),
-            Mark::Taken(t, o) => self.spread_taken(ix, t as usize, o as usize),
+            Mark::Fact(t, l) => self.spread_fact(ix, t as usize, Literal { number: l }),
+            Mark::Taken(t, o) => self.spread_taken(ix, t as usize, o),
             Mark::LeftOut(t, o) => self.check_all(ix, t as usize, ix.makes[o as usize]),
         }
     }

@@ -1,32 +1,19 @@
-// One mark: its opposite, whether it is on, and putting it in.
+// One mark: whether it is on, and putting it in.
 ghost use Rattle.std.specs.Prelude.{◌≡◌, ℕ, ◌<◌, Bool, true, false, ◌&&◌, ◌||◌, length, ◌==◌, slice_index_or};
 ghost use Rattle.sets.specs.Sets.{step_in, no_literals, no_steps};
-ghost use Rattle.marks.specs.Tables.{number_in, opp, opp_lit};
+ghost use Rattle.marks.specs.declared.mark.Mark.{Mark as AMark};
+ghost use Rattle.marks.specs.Tables.{number_in, marked_in, opp, ranged, same};
 ghost use Rattle.marks.specs.Grows.{on, Ranged, Put, Added};
 
+use crate::cells::CellSides;
 use crate::mark::Mark;
+use crate::marked::Marked;
 use crate::tables::Marks;
-use sets::facts::{LiteralSet, flip};
+use model::cell::Cell;
+use model::path::Side;
+use sets::facts::LiteralSet;
 use sets::stack::Stack;
 use sets::steps::StepSet;
-
-// The mark that contradicts `x`.
-pub fn opposite(x: Mark) -> Mark
-    ensures { result ≡ opp x }
-{
-    match x {
-        Mark::Fact(t, l) => Mark::Fact(t, opposite_literal(l)),
-        Mark::Taken(t, o) => Mark::LeftOut(t, o),
-        Mark::LeftOut(t, o) => Mark::Taken(t, o),
-    }
-}
-
-// The number of the opposite literal.
-pub fn opposite_literal(l: u8) -> u8
-    ensures { result ≡ opp_lit l }
-{
-    flip(l as usize) as u8
-}
 
 // Puts step `i` into the set at `t`.
 pub(crate) fn enter(table: &mut [StepSet], t: usize, i: u8)
@@ -47,16 +34,47 @@ fn enter_literal(table: &mut [LiteralSet], t: usize, l: usize)
     table[t] = set;
 }
 
+impl Marked {
+    // Nothing is marked.
+    pub(crate) fn none() -> Marked
+        ensures { (x : AMark) → marked_in result x ≡ false }
+    {
+        Marked {
+            facts: [LiteralSet::empty(); 33],
+            cells: CellSides::none(),
+        }
+    }
+
+    // Whether the mark is on; one beyond the tables is not.
+    pub(crate) fn has(&self, x: Mark) -> bool
+        ensures { result ≡ marked_in self.now x }
+    {
+        match x {
+            Mark::Fact(t, l) => t < 33 && self.facts[t as usize].contains(l as usize),
+            Mark::Taken(time, step) => self.cells.has(Cell { time, step }, Side::Taken),
+            Mark::LeftOut(time, step) => self.cells.has(Cell { time, step }, Side::LeftOut),
+        }
+    }
+
+    // Puts the mark in.
+    fn enter(&mut self, x: Mark)
+        requires { ranged 32 x ≡ true }
+        ensures { (y : AMark) → marked_in self.new y ≡ (same x y || marked_in self.old y) }
+    {
+        match x {
+            Mark::Fact(t, l) => enter_literal(&mut self.facts, t as usize, l as usize),
+            Mark::Taken(time, step) => self.cells.enter(Cell { time, step }, Side::Taken),
+            Mark::LeftOut(time, step) => self.cells.enter(Cell { time, step }, Side::LeftOut),
+        }
+    }
+}
+
 impl Marks {
     // Whether the mark is on; one beyond the tables is not.
     pub fn is_on(&self, x: Mark) -> bool
         ensures { result ≡ on self.now x }
     {
-        match x {
-            Mark::Fact(t, l) => t < 33 && self.facts[t as usize].contains(l as usize),
-            Mark::Taken(t, o) => t < 32 && self.taken[t as usize].contains(o),
-            Mark::LeftOut(t, o) => t < 32 && self.left[t as usize].contains(o),
-        }
+        self.marked.has(x)
     }
 
     // Puts one mark in; where the opposite is on, the marks contradict.
@@ -67,7 +85,7 @@ impl Marks {
         if self.is_on(x) {
             return;
         }
-        if self.is_on(opposite(x)) {
+        if self.is_on(x.opposite()) {
             self.conflict = true;
             return;
         }
@@ -84,10 +102,6 @@ impl Marks {
         let mut trail = Stack::resume(&mut self.trail, self.len);
         trail.push(x);
         self.len = trail.len();
-        match x {
-            Mark::Fact(t, l) => enter_literal(&mut self.facts, t as usize, l as usize),
-            Mark::Taken(t, o) => enter(&mut self.taken, t as usize, o),
-            Mark::LeftOut(t, o) => enter(&mut self.left, t as usize, o),
-        }
+        self.marked.enter(x);
     }
 }

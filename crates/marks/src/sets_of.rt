@@ -36,7 +36,7 @@ impl Marks {
         requires { t < self.old.length }
         ensures { Added self.old (LeavesOut set t) self.new }
     {
-        let fresh = set.minus(self.left[t]);
+        let fresh = set.minus(self.marked.cells.left[t]);
         self.leave_each(t, fresh);
     }
 
@@ -45,7 +45,7 @@ impl Marks {
         requires { t ≤ self.old.length }
         ensures { Added self.old (Holds set t) self.new }
     {
-        let fresh = set.minus(self.facts[t]);
+        let fresh = set.minus(self.marked.facts[t]);
         self.hold_each(t, fresh);
     }
 

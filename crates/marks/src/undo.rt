@@ -1,12 +1,16 @@
 // Taking marks back.
 ghost use Rattle.std.specs.Prelude.{◌≡◌, ℕ, ◌+◌, ◌<◌, ◌≤◌, Bool, true, false, not, ◌&&◌, ◌||◌, length, ◌==◌, slice_index_or};
 ghost use Rattle.sets.specs.Sets.{step_in, no_literals, no_steps};
-ghost use Rattle.marks.specs.Tables.{number_in};
+ghost use Rattle.marks.specs.declared.mark.Mark.{Mark as AMark};
+ghost use Rattle.marks.specs.Tables.{number_in, marked_in, ranged, same};
 ghost use Rattle.marks.specs.Grows.{Retreated};
 ghost use Rattle.marks.specs.Deciding.{Restores};
 
 use crate::mark::Mark;
+use crate::marked::Marked;
 use crate::tables::Marks;
+use model::cell::Cell;
+use model::path::Side;
 use sets::facts::LiteralSet;
 use sets::stack::Stack;
 use sets::steps::StepSet;
@@ -30,6 +34,20 @@ fn strike_literal(table: &mut [LiteralSet], t: usize, l: usize)
     table[t] = set;
 }
 
+impl Marked {
+    // Takes the mark out.
+    fn strike(&mut self, x: Mark)
+        requires { ranged 32 x ≡ true }
+        ensures { (y : AMark) → marked_in self.new y ≡ (marked_in self.old y && not (same x y)) }
+    {
+        match x {
+            Mark::Fact(t, l) => strike_literal(&mut self.facts, t as usize, l as usize),
+            Mark::Taken(time, step) => self.cells.strike(Cell { time, step }, Side::Taken),
+            Mark::LeftOut(time, step) => self.cells.strike(Cell { time, step }, Side::LeftOut),
+        }
+    }
+}
+
 impl Marks {
     // Takes the newest mark back.
     fn pop(&mut self)
@@ -42,11 +60,7 @@ impl Marks {
         let Some(x) = top else {
             return;
         };
-        match x {
-            Mark::Fact(t, l) => strike_literal(&mut self.facts, t as usize, l as usize),
-            Mark::Taken(t, o) => strike(&mut self.taken, t as usize, o),
-            Mark::LeftOut(t, o) => strike(&mut self.left, t as usize, o),
-        }
+        self.marked.strike(x);
     }
 
     // Goes back to the first `n` marks; with fewer than `n`, nothing changes.

@@ -1,5 +1,5 @@
 -- A search as it begins. Assumes nothing.
-use Rattle.std.proofs.Common.{◌≡◌, ℕ, ◌*◌, ◌<◌, ◌≤◌, true, ◌&&◌, ltb, leb, ◌⊎◌, List, get_or, sym, ◌∙◌, inl, inr, ⊎_elim, zero-mul, arith}
+use Rattle.std.proofs.Common.{◌≡◌, ℕ, ◌*◌, ◌<◌, ◌≤◌, true, ◌&&◌, ltb, leb, ◌⊎◌, List, get_or, sym, ◌∙◌, inl, inr, ⊎_elim, zero-mul, arith, Option}
 use mathlib.Core.Logic.{∥∥₁_map, ∥∥₁_elim}
 use native.Mathlib.Bridge.{le_prop}
 use Rattle.sets.specs.Literals.{Literal, lit, code}
@@ -17,7 +17,7 @@ use Rattle.model.specs.Firsts.{Ordered}
 use Rattle.model.specs.Rankings.{ranked}
 use Rattle.marks.specs.declared.tables.Marks.{Marks}
 use Rattle.marks.specs.declared.index.Index.{Index}
-use Rattle.marks.specs.declared.cells.CellMarks.{CellMarks}
+use Rattle.marks.specs.declared.cells.CellSides.{CellSides}
 use Rattle.marks.specs.Pinning.{with_pin, pins_of}
 use Rattle.clauses.specs.Waiting.{kept_in}
 use Rattle.search.specs.declared.tables.Search.{Search}
@@ -91,7 +91,7 @@ range_with pins new T m c pin inside r w t o h = ⊎_elim
     (cases_Bool (ltb c.time 32 && is_cell c t o))
 
 -- a search of a problem just taken up
-pub opens : (t : ProblemTable) {V : Clauses} {ix : Index} {order : List Cell} {pins : Pins} {root : CellMarks} {m : Marks} {ls : List Level} {n : ℕ}
+pub opens : (t : ProblemTable) {V : Clauses} {ix : Index} {order : List Cell} {pins : Pins} {root : Option CellSides} {m : Marks} {ls : List Level} {n : ℕ}
     → Largest (problem_of t) V → Means ix (problem_of t) V → ((t o : ℕ) → pins t o ≡ unpinned) → Begun ix pins 0 m → CellsOf m root → n ≡ 0
     → ∥ Sound (problem_of t) V ix 0 order pins root m ls n ∥₁
 opens t {order = order} {pins = pins} largest means free b k none =
@@ -99,13 +99,13 @@ opens t {order = order} {pins = pins} largest means free b k none =
 
 -- what a search keeps of its problem, as it begins anew
 module _ (s : Search) where
-  pub begins_anew : {T : ℕ} {order : List Cell} {pins : Pins} {root : CellMarks} {m : Marks} {ls : List Level} {n : ℕ} → Ordered T (steps (problem_of s.problem)) (places_in order)
+  pub begins_anew : {T : ℕ} {order : List Cell} {pins : Pins} {root : Option CellSides} {m : Marks} {ls : List Level} {n : ℕ} → Ordered T (steps (problem_of s.problem)) (places_in order)
       → InRange pins T (steps (problem_of s.problem)) → Begun s.index pins T m → CellsOf m root → n ≡ 0
       → ∥ Sound (problem_of s.problem) (kept_in s.clauses) s.index T order pins root m ls n ∥₁
   begins_anew ordered range b k none = ∥∥₁_map s.sound (λ x. sound_begin x.well x.largest x.means ordered range b k none)
 
   -- with other pins alone
-  pub pins_anew : {pins : Pins} {root : CellMarks} {m : Marks} {ls : List Level} {n : ℕ} → InRange pins s.length (steps (problem_of s.problem))
+  pub pins_anew : {pins : Pins} {root : Option CellSides} {m : Marks} {ls : List Level} {n : ℕ} → InRange pins s.length (steps (problem_of s.problem))
       → Begun s.index pins s.length m → CellsOf m root → n ≡ 0
       → ∥ Sound (problem_of s.problem) (kept_in s.clauses) s.index s.length s.order pins root m ls n ∥₁
   pins_anew range b k none = ∥∥₁_map s.sound (λ x. sound_begin x.well x.largest x.means x.ordered range b k none)

@@ -1,9 +1,7 @@
 -- What the marks of the pins alone say of a cell is what the pins force. Assumes nothing.
-use Rattle.std.proofs.Common.{◌≡◌, ℕ, true, false, List, get_or, sym, ap, ◌∙◌, subst, arith}
+use Rattle.std.proofs.Common.{◌≡◌, ℕ, true, Some, sym, ap, ◌∙◌, subst, arith}
 use mathlib.Core.Logic.{∥∥₁_map}
 use Rattle.std.proofs.lemmas.Bool.{both_ways}
-use Rattle.sets.specs.Sets.{step_in, no_steps}
-use Rattle.sets.specs.declared.steps.StepSet.{StepSet}
 use Rattle.model.specs.declared.cell.Cell.{Cell}
 use Rattle.model.specs.declared.path.Side.TheVariants as side
 use Rattle.model.specs.Problems.{Problem}
@@ -13,67 +11,59 @@ use Rattle.model.specs.Marks.{taken, left_out, Forced, Contradiction}
 use Rattle.model.specs.Forcing.{CellTold, ForcedSays}
 use Rattle.model.specs.Held.{problem_of}
 use Rattle.marks.specs.declared.tables.Marks.{Marks}
-use Rattle.marks.specs.declared.cells.CellMarks.{CellMarks}
+use Rattle.marks.specs.declared.cells.CellSides.{CellSides}
 use Rattle.marks.specs.Rules.{Exactly, seeds}
 use Rattle.marks.specs.Meaning.{Tells}
 use Rattle.marks.specs.Pinning.{pins_of}
-use Rattle.marks.specs.Cells.{CellsOf, said}
+use Rattle.marks.specs.Cells.{CellsOf, said, Unsaid}
 use Rattle.marks.proofs.Meaning.{exactly_tells}
 use Rattle.clauses.specs.Waiting.{kept_in}
 use Rattle.search.specs.declared.tables.Search.{Search}
 
-module _ {p : Problem} {pins : Pins} {V : Clauses} {m : Marks} {k : CellMarks} (c : Cell) (tells : Tells p pins V m) (same : CellsOf m k) where
-  calm : k.conflict ≡ false → Contradiction (Forced p m.length pins V) → ⊥
-  calm e x = both_ways m.conflict (sym same.same_conflict ∙ e) (tells.whole x)
-
-  taken_as : step_in (get_or k.taken c.time no_steps) c.step ≡ step_in (get_or m.taken c.time no_steps) c.step
-  taken_as = ap (λ (table : List StepSet). step_in (get_or table c.time no_steps) c.step) same.same_taken
-
-  left_as : step_in (get_or k.left c.time no_steps) c.step ≡ step_in (get_or m.left c.time no_steps) c.step
-  left_as = ap (λ (table : List StepSet). step_in (get_or table c.time no_steps) c.step) same.same_left
-
-  pub told_contradiction : k.conflict ≡ true → CellTold (Forced p m.length pins V) c.time c.step 3
+module _ {p : Problem} {pins : Pins} {V : Clauses} {m : Marks} (c : Cell) (tells : Tells p pins V m) where
+  pub told_contradiction : m.conflict ≡ true → CellTold (Forced p m.length pins V) c.time c.step 3
   told_contradiction e = record {
     small = omega arith;
     undecided = λ q. absurd (omega arith);
     is_taken = λ q. absurd (omega arith);
     is_left_out = λ q. absurd (omega arith);
-    contradicts = λ q. tells.broken (sym same.same_conflict ∙ e);
+    contradicts = λ q. tells.broken e;
   }
 
-  pub told_taken : k.conflict ≡ false → said k side.Taken c ≡ true → CellTold (Forced p m.length pins V) c.time c.step 1
-  told_taken e h = record {
-    small = omega arith;
-    undecided = λ q. absurd (omega arith);
-    is_taken = λ q. (calm e, tells.sound (taken c.time c.step) (sym taken_as ∙ h));
-    is_left_out = λ q. absurd (omega arith);
-    contradicts = λ q. absurd (omega arith);
-  }
+  module _ (k : CellSides) (same : CellsOf m (Some k)) where
+    calm : Contradiction (Forced p m.length pins V) → ⊥
+    calm x = both_ways m.conflict same.0 (tells.whole x)
 
-  pub told_left : k.conflict ≡ false → said k side.LeftOut c ≡ true → CellTold (Forced p m.length pins V) c.time c.step 2
-  told_left e h = record {
-    small = omega arith;
-    undecided = λ q. absurd (omega arith);
-    is_taken = λ q. absurd (omega arith);
-    is_left_out = λ q. (calm e, tells.sound (left_out c.time c.step) (sym left_as ∙ h));
-    contradicts = λ q. absurd (omega arith);
-  }
+    pub told_taken : said k side.Taken c ≡ true → CellTold (Forced p m.length pins V) c.time c.step 1
+    told_taken h = record {
+      small = omega arith;
+      undecided = λ q. absurd (omega arith);
+      is_taken = λ q. (calm, tells.sound (taken c.time c.step) (sym (ap (λ (z : CellSides). said z side.Taken c) same.1) ∙ h));
+      is_left_out = λ q. absurd (omega arith);
+      contradicts = λ q. absurd (omega arith);
+    }
 
-  pub told_neither : k.conflict ≡ false → said k side.Taken c ≡ false → said k side.LeftOut c ≡ false
-      → CellTold (Forced p m.length pins V) c.time c.step 0
-  told_neither e h g =
-      let quiet : m.conflict ≡ false = sym same.same_conflict ∙ e in
-      record {
-        small = omega arith;
-        undecided = λ q. (
-          calm e,
-          λ x. both_ways _ (sym taken_as ∙ h) (tells.complete quiet (taken c.time c.step) x),
-          λ x. both_ways _ (sym left_as ∙ g) (tells.complete quiet (left_out c.time c.step) x),
-        );
-        is_taken = λ q. absurd (omega arith);
-        is_left_out = λ q. absurd (omega arith);
-        contradicts = λ q. absurd (omega arith);
-      }
+    pub told_left : said k side.LeftOut c ≡ true → CellTold (Forced p m.length pins V) c.time c.step 2
+    told_left h = record {
+      small = omega arith;
+      undecided = λ q. absurd (omega arith);
+      is_taken = λ q. absurd (omega arith);
+      is_left_out = λ q. (calm, tells.sound (left_out c.time c.step) (sym (ap (λ (z : CellSides). said z side.LeftOut c) same.1) ∙ h));
+      contradicts = λ q. absurd (omega arith);
+    }
+
+    pub told_neither : Unsaid k c → CellTold (Forced p m.length pins V) c.time c.step 0
+    told_neither u = record {
+      small = omega arith;
+      undecided = λ q. (
+        calm,
+        λ x. both_ways _ (sym (ap (λ (z : CellSides). said z side.Taken c) same.1) ∙ u.not_taken) (tells.complete same.0 (taken c.time c.step) x),
+        λ x. both_ways _ (sym (ap (λ (z : CellSides). said z side.LeftOut c) same.1) ∙ u.not_left) (tells.complete same.0 (left_out c.time c.step) x),
+      );
+      is_taken = λ q. absurd (omega arith);
+      is_left_out = λ q. absurd (omega arith);
+      contradicts = λ q. absurd (omega arith);
+    }
 
 -- what the marks of the pins tell, whatever they are, is told of the search's pins
 pub forced_says : (s : Search) (c : Cell) (n : ℕ)

@@ -1,5 +1,5 @@
 -- What marks at rest say of the plans that agree with the path. Assumes nothing.
-use Rattle.std.proofs.Common.{◌≡◌, ℕ, ◌*◌, ◌<◌, Bool, true, false, ◌&&◌, ◌⊎◌, List, [], ◌∷◌, sym, refl, ap, ◌∙◌, subst, inl, inr, ⊎_elim, arith}
+use Rattle.std.proofs.Common.{◌≡◌, ℕ, ◌*◌, ◌<◌, Bool, true, false, ◌&&◌, ◌⊎◌, List, [], ◌∷◌, sym, refl, ap, ◌∙◌, subst, inl, inr, ⊎_elim, arith, Option}
 use Rattle.std.proofs.lemmas.Bool.{both_ways, cases_Bool, cond-true, cond-false, and_from, or_cases, or_right, not-true, lt-ltb}
 use Rattle.model.specs.declared.cell.Cell.{Cell}
 use Rattle.model.specs.declared.path.Side.{Side}
@@ -20,7 +20,7 @@ use Rattle.model.proofs.KeptHold.{kept_hold}
 use Rattle.marks.specs.declared.mark.Mark.TheVariants.{Taken, LeftOut}
 use Rattle.marks.specs.declared.tables.Marks.{Marks}
 use Rattle.marks.specs.declared.index.Index.{Index}
-use Rattle.marks.specs.declared.cells.CellMarks.{CellMarks}
+use Rattle.marks.specs.declared.cells.CellSides.{CellSides}
 use Rattle.marks.specs.Grows.{on}
 use Rattle.marks.specs.Rules.{Exactly, seeds}
 use Rattle.marks.specs.Pinning.{Within, says_take, says_leave}
@@ -59,7 +59,7 @@ free_absent pins (e ∷ path) c h = go (free_absent pins path c) (cases_Bool (is
     go later (inr k) = let r = later (sym (cond-false _ _ _ k) ∙ h) in
         (((λ q. both_ways (is_cell e.cell c.time c.step) k (subst (λ (d : Cell). is_cell e.cell d.time d.step ≡ true) q (own_cell e.cell))), r.0), r.1)
 
-module _ {p : Problem} {V : Clauses} {ix : Index} {T : ℕ} {order : List Cell} {pins : Pins} {root : CellMarks} {m : Marks} {ls : List Level} {n : ℕ}
+module _ {p : Problem} {V : Clauses} {ix : Index} {T : ℕ} {order : List Cell} {pins : Pins} {root : Option CellSides} {m : Marks} {ls : List Level} {n : ℕ}
     (held : Sound p V ix T order pins root m ls n) where
   abbrev path : List Entry
   path = path_at order ls n

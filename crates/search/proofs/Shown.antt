@@ -1,5 +1,5 @@
 -- What the kept truth of a search shows, taken out of its truncation. Assumes nothing.
-use Rattle.std.proofs.Common.{◌≡◌, ℕ, suc, ◌+◌, ◌-◌, ◌*◌, ◌<◌, ◌≤◌, true, false, List, [], ◌∷◌, ◌++◌, length, get_or, set, sym, ap, subst, add-one, arith}
+use Rattle.std.proofs.Common.{◌≡◌, ℕ, suc, ◌+◌, ◌-◌, ◌*◌, ◌<◌, ◌≤◌, true, false, List, [], ◌∷◌, ◌++◌, length, get_or, set, sym, ap, subst, add-one, arith, Option}
 use native.Mathlib.Bridge.{le_prop}
 use native.Mathlib.Nat.{ℕ_set}
 use mathlib.Core.Bool.{Bool-set}
@@ -16,7 +16,7 @@ use Rattle.model.proofs.SeenOnce.{such_prop, only_prop, next_prop}
 use Rattle.model.proofs.Keeping.{kept_first}
 use Rattle.marks.specs.declared.tables.Marks.{Marks}
 use Rattle.marks.specs.declared.index.Index.{Index}
-use Rattle.marks.specs.declared.cells.CellMarks.{CellMarks}
+use Rattle.marks.specs.declared.cells.CellSides.{CellSides}
 use Rattle.marks.specs.Grows.{Retreated}
 use Rattle.marks.specs.Deciding.{mark_of, Decided, Undecided}
 use Rattle.search.specs.declared.level.Level.{Level}
@@ -27,7 +27,7 @@ use Rattle.search.proofs.PinnedPath.{same_cells}
 use Rattle.search.proofs.Seeing.{seen_contradiction, seen_undecided, seen_whole}
 use Rattle.search.proofs.Sounding.{sound_choose, sound_undo, trail_within, undo_lower, beyond_lower}
 
-module _ {p : Problem} {V : Clauses} {ix : Index} {T : ℕ} {order : List Cell} {pins : Pins} {root : CellMarks} {m : Marks} {ls : List Level} {n : ℕ}
+module _ {p : Problem} {V : Clauses} {ix : Index} {T : ℕ} {order : List Cell} {pins : Pins} {root : Option CellSides} {m : Marks} {ls : List Level} {n : ℕ}
     (t : ∥ Sound p V ix T order pins root m ls n ∥₁) where
   -- what is sound with a choice, said with one level more than there were before it
   newest : 0 < n → Sound p V ix T order pins root m ls n → Sound p V ix T order pins root m ls (suc (n - 1))

@@ -1,5 +1,5 @@
 -- What a search keeps true, through a choice and its taking back. Assumes nothing.
-use Rattle.std.proofs.Common.{◌≡◌, ℕ, suc, ◌+◌, ◌*◌, ◌<◌, ◌≤◌, true, false, ◌≢◌, List, [], ◌∷◌, ◌++◌, length, get_or, take, set, sym, refl, ap, ◌∙◌, subst, ⊎_elim, add-one, arith, get_or-set_other, get_or-set_same}
+use Rattle.std.proofs.Common.{◌≡◌, ℕ, suc, ◌+◌, ◌*◌, ◌<◌, ◌≤◌, true, false, ◌≢◌, List, [], ◌∷◌, ◌++◌, length, get_or, take, set, sym, refl, ap, ◌∙◌, subst, ⊎_elim, add-one, arith, get_or-set_other, get_or-set_same, Option}
 use Rattle.std.proofs.lemmas.List.{append_assoc, take_more_set}
 use Rattle.std.proofs.lemmas.Bool.{cases_eq, and_from, or_left, or_right, lt-ltb}
 use Rattle.model.specs.declared.cell.Cell.{Cell}
@@ -18,7 +18,7 @@ use Rattle.marks.specs.declared.mark.Mark.{Mark}
 use Rattle.marks.specs.declared.mark.Mark.TheVariants.{Taken, LeftOut}
 use Rattle.marks.specs.declared.tables.Marks.{Marks}
 use Rattle.marks.specs.declared.index.Index.{Index}
-use Rattle.marks.specs.declared.cells.CellMarks.{CellMarks}
+use Rattle.marks.specs.declared.cells.CellSides.{CellSides}
 use Rattle.marks.specs.Grows.{on, Grows, Retreated}
 use Rattle.marks.specs.Rules.{seeds}
 use Rattle.marks.specs.Cells.{CellsOf}
@@ -57,7 +57,7 @@ last_fair T m pins (x ∷ path) e f = let r = last_fair T m pins path e f.4 in
     not_end [] a q = a.0 q
     not_end (y ∷ path) a q = not_end path a.1 q
 
-module _ {p : Problem} {V : Clauses} {ix : Index} {T : ℕ} {order : List Cell} {pins : Pins} {root : CellMarks} where
+module _ {p : Problem} {V : Clauses} {ix : Index} {T : ℕ} {order : List Cell} {pins : Pins} {root : Option CellSides} where
   -- a choice of a cell: its mark is among what is given now
   pub sound_choose : {m m' : Marks} {ls : List Level} {n : ℕ} (l : Level) → Sound p V ix T order pins root m ls n → n < length ls
       → l.place < T * steps p → m.conflict ≡ false → l.trail ≡ m.len → Lower m order l.place

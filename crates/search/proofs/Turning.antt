@@ -16,7 +16,7 @@ use Rattle.model.specs.Firsts.{First, NoneAgrees}
 use Rattle.model.proofs.Keeping.{kept_turn, kept_pop, kept_add, walk_step}
 use Rattle.search.specs.declared.level.Level.{Level}
 use Rattle.search.specs.declared.tables.Search.{Search}
-use Rattle.marks.specs.Cells.{CellsOf}
+use Rattle.marks.specs.declared.cells.CellSides.{CellSides}
 use Rattle.search.specs.Levels.{cell_at, taken_by}
 use Rattle.search.specs.Ordering.{places_in}
 use Rattle.search.specs.Looks.{Ask, asked, cells, Wanted, path_of, KeptFor, Choosable, Fits, Undone, plan_of}
@@ -78,12 +78,12 @@ walk_on s₀ s s' g same w ch = walk_step s₀.length (steps (problem_of s₀.pr
     (subst (λ (a : Ask). Fair a.length (steps a.problem) a.pins (path_of s)) same (kept_now s).fair) ch
 
 -- the plan that the marks spelled, kept apart, is the first
-pub plan_found : (s₀ s s' s'' : Search) → asked s ≡ asked s₀ → asked s' ≡ asked s → asked s'' ≡ asked s' → CellsOf s'.marks s''.plan
+pub plan_found : (s₀ s s' s'' : Search) → asked s ≡ asked s₀ → asked s' ≡ asked s → asked s'' ≡ asked s' → s''.plan ≡ s'.marks.marked.cells
     → First (Wanted (asked s)) s.length (steps (problem_of s.problem)) (cell_at s.order) (taken_by s'.marks (problem_of s.problem) s.length)
     → First (Wanted (asked s₀)) s₀.length (steps (problem_of s₀.problem)) (cell_at s₀.order) (plan_of s'')
 plan_found s₀ s s' s'' e f g k h =
     let P : Ask → Cells → Type 0 = λ a plan. First (Wanted a) a.length (steps a.problem) (cell_at a.order) plan in
     let tab : List StepSet → Ask → Cells = λ table a. λ t o. (ltb t a.length && ltb o (steps a.problem)) && step_in (get_or table t no_steps) o in
     subst (λ (a : Ask). P (asked s₀) (tab s''.plan.taken a)) (sym (g ∙ f ∙ e))
-    (subst (λ (table : List StepSet). P (asked s₀) (tab table (asked s₀))) (sym k.same_taken)
-    (subst (λ (a : Ask). P a (tab s'.marks.taken a)) e h))
+    (subst (λ (table : List StepSet). P (asked s₀) (tab table (asked s₀))) (sym (ap (λ (z : CellSides). z.taken) k))
+    (subst (λ (a : Ask). P a (tab s'.marks.marked.cells.taken a)) e h))

@@ -1,5 +1,5 @@
 -- What a search keeps true of its tables. Assumes nothing.
-use Rattle.std.specs.Prelude.{◌≡◌, ℕ, ◌*◌, ◌<◌, List, slice_index_or}
+use Rattle.std.specs.Prelude.{◌≡◌, ℕ, ◌*◌, ◌<◌, List, Option, slice_index_or}
 use Rattle.model.specs.declared.cell.Cell.{Cell}
 use Rattle.model.specs.Problems.{Problem, WellFormed, steps}
 use Rattle.model.specs.Plans.{Pins}
@@ -8,7 +8,7 @@ use Rattle.model.specs.Firsts.{Ordered, Such}
 use Rattle.model.specs.Kept.{Kept}
 use Rattle.marks.specs.declared.tables.Marks.{Marks}
 use Rattle.marks.specs.declared.index.Index.{Index}
-use Rattle.marks.specs.declared.cells.CellMarks.{CellMarks}
+use Rattle.marks.specs.declared.cells.CellSides.{CellSides}
 use Rattle.marks.specs.Rules.{Rest, seeds}
 use Rattle.marks.specs.Meaning.{Means}
 use Rattle.marks.specs.Cells.{CellsOf}
@@ -17,11 +17,11 @@ use Rattle.search.specs.Pinned.{with_path, InRange}
 use Rattle.search.specs.Levels.{no_level, path_at, Levels}
 use Rattle.search.specs.Ordering.{places_in}
 
--- the cells' marks are those of marks at rest that the pins alone force
-abbrev pub Rooted : Index → ℕ → Pins → CellMarks → Type 0
+-- the cells' marks are those of marks at rest that the pins alone force, and none where these contradict
+abbrev pub Rooted : Index → ℕ → Pins → Option CellSides → Type 0
 Rooted ix T pins root = (m : Marks) × (m.length ≡ T) × Rest ix (seeds ix pins T) m × CellsOf m root
 
-pub record Sound (p : Problem) (V : Clauses) (ix : Index) (T : ℕ) (order : List Cell) (pins : Pins) (root : CellMarks) (m : Marks)
+pub record Sound (p : Problem) (V : Clauses) (ix : Index) (T : ℕ) (order : List Cell) (pins : Pins) (root : Option CellSides) (m : Marks)
     (ls : List Level) (n : ℕ) : Type 0 where
   -- the problem keeps the limits, its clauses are the largest kept set, and the index means both
   pub well : WellFormed p

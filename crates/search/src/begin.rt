@@ -9,7 +9,7 @@ ghost use Rattle.marks.specs.Cells.{CellsOf};
 ghost use Rattle.search.specs.Begins.{Opened, Asked, Repinned};
 
 use crate::tables::Search;
-use marks::cells::CellMarks;
+use marks::cells::CellSides;
 use marks::index::Index;
 use marks::pins::Pins;
 use marks::tables::Marks;
@@ -20,15 +20,20 @@ use model::ranking::Ranking;
 use model::source::ProblemSource;
 use model::table::ProblemTable;
 
-// Works the marks out from the pins alone, and answers those of the cells.
+// Works the marks out from the pins alone, and answers those of the cells, unless they contradict.
 // Not a method of Search, whose tables fit together again only once the path is empty, too.
-pub(crate) fn work_out(marks: &mut Marks, index: &Index, pins: &Pins, length: usize) -> CellMarks
+pub(crate) fn work_out(
+    marks: &mut Marks,
+    index: &Index,
+    pins: &Pins,
+    length: usize,
+) -> Option<CellSides>
     requires { length ≤ 32 }
     ensures begun { Begun index.now (pins_of pins.now) length marks.new }
     ensures cells { CellsOf marks.new result }
 {
     marks.begin(index, pins, length);
-    marks.cells()
+    marks.calm_cells()
 }
 
 impl Search {

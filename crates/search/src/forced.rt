@@ -16,10 +16,10 @@ impl Search {
         requires { cell.time < self.now.length }
         ensures { ForcedSays (problem_of self.now.problem) self.now.length (pins_of self.now.pins) cell.time cell.step (forced_number result) }
     {
-        if self.root.contradicts() {
+        let Some(cells) = &self.root else {
             return Forced::Contradiction;
-        }
-        match self.root.decided(cell) {
+        };
+        match cells.get(cell) {
             Some(Side::Taken) => Forced::Taken,
             Some(Side::LeftOut) => Forced::LeftOut,
             None => Forced::Undecided,

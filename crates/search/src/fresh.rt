@@ -6,7 +6,7 @@ use crate::begin::work_out;
 use crate::path::Path;
 use crate::tables::Search;
 use clauses::record::ClauseRecord;
-use marks::cells::CellMarks;
+use marks::cells::CellSides;
 use marks::index::Index;
 use marks::pins::Pins;
 use marks::tables::Marks;
@@ -36,7 +36,7 @@ impl Search {
             root,
             marks,
             path: Path::empty(),
-            plan: CellMarks::none(),
+            plan: CellSides::none(),
         }
     }
 }

@@ -1,7 +1,6 @@
 // One choice after another, until the first plan is found, or there is none, or the grant is used up.
 ghost use Rattle.std.specs.Prelude.{◌≡◌, ℕ, ◌<◌, ◌≤◌, []};
 ghost use Rattle.model.specs.Firsts.{NoneAgrees};
-ghost use Rattle.marks.specs.Cells.{CellsOf};
 ghost use Rattle.search.specs.Looks.{asked, path_of, Wanted, Turned, Advanced, Ran};
 
 use crate::look::Look;
@@ -59,7 +58,7 @@ impl Search {
     fn finish(&mut self)
         ensures same { asked self.new ≡ asked self.old }
         ensures empty { path_of self.new ≡ [] }
-        ensures plan { CellsOf self.old.marks self.new.plan }
+        ensures plan { self.new.plan ≡ self.old.marks.marked.cells }
     {
         self.plan = self.marks.cells();
         self.rewind();

@@ -7,7 +7,7 @@ ghost use Rattle.search.specs.Sound.{Sound};
 
 use crate::path::Path;
 use clauses::record::ClauseRecord;
-use marks::cells::CellMarks;
+use marks::cells::CellSides;
 use marks::index::Index;
 use marks::pins::Pins;
 use marks::tables::Marks;
@@ -24,13 +24,13 @@ pub struct Search {
     // by place, the cell
     pub(crate) order: [Cell; 8192],
     pub(crate) pins: Pins,
-    // the marks of the cells that the pins alone force
-    pub(crate) root: CellMarks,
+    // the marks of the cells that the pins alone force, unless these contradict
+    pub(crate) root: Option<CellSides>,
     // the marks that the pins and the path force
     pub(crate) marks: Marks,
     pub(crate) path: Path,
     // the marks of the cells of the plan that was found last
-    pub(crate) plan: CellMarks,
+    pub(crate) plan: CellSides,
     ghost short: { length ≤ 32 },
     ghost order_sized: { size order ≡ 8192 },
     ghost sound: { ∥ Sound (problem_of problem) (kept_in clauses) index length order (pins_of pins) root marks path.levels path.depth ∥₁ },

@@ -10,7 +10,7 @@ use Rattle.marks.proofs.tables.Marks.hold_all.Goals as goal
 
 pub returns : goal.returns
 returns c =
-    let m = c.args.self.now in let s = c.args.set in let true-now = get_or m.facts c.args.t no_literals in
+    let m = c.args.self.now in let s = c.args.set in let true-now = get_or m.marked.facts c.args.t no_literals in
     added_rest c.hold_each.ensures
     (λ y q. ⊎_elim
     (λ h. inl (subst (λ (z : Mark). on m z ≡ true) (sym q.2) h))

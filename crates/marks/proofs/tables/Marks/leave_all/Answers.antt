@@ -8,7 +8,7 @@ use Rattle.marks.proofs.tables.Marks.leave_all.Goals as goal
 
 pub returns : goal.returns
 returns c =
-    let m = c.args.self.now in let s = c.args.set in let left = get_or m.left c.args.t no_steps in
+    let m = c.args.self.now in let s = c.args.set in let left = get_or m.marked.cells.left c.args.t no_steps in
     added_rest c.leave_each.ensures
     (λ y q. ⊎_elim
     (λ h. inl (subst (λ (z : Mark). on m z ≡ true) (sym q.2) h))

@@ -9,7 +9,7 @@ invariant_of-result c = record {
   short = omega arith;
   room = omega arith;
   passed = omega arith;
-  listed = listed_none c.empty.result c.empty-2.result c.empty-3.result c.empty.ensures.members c.empty-2.ensures c.empty-3.ensures (replicate 10304 (Fact 0 0));
+  listed = listed_none c.none.result c.none.ensures (replicate 10304 (Fact 0 0));
   ranged = λ i h. absurd (omega arith);
   apart = λ i j h k. absurd (omega arith);
 }

@@ -9,5 +9,5 @@ pub returns : goal.returns
 returns c =
     let ix = c.args.ix.now in let pins = c.args.pins.now in let t = c.args.t in
     added_then c.leave_all.ensures
-    (added_then {Q = λ y. LeavesOut (get_or pins.left t no_steps) t y ⊎ Takes (get_or pins.taken t no_steps) t y} c.leave_all-2.ensures c.take_all.ensures (λ y q. q) (λ y s. inl s) (λ y r. inr r))
+    (added_then {Q = λ y. LeavesOut (get_or pins.cells.left t no_steps) t y ⊎ Takes (get_or pins.cells.taken t no_steps) t y} c.leave_all-2.ensures c.take_all.ensures (λ y q. q) (λ y s. inl s) (λ y r. inr r))
     (λ y q. q) (λ y s. inl s) (λ y r. inr r)

@@ -1,29 +1,24 @@
 use Rattle.sets.specs.Sets.{no_literals}
-use Rattle.std.proofs.Common.{ℕ, ◌<◌, get_or, sym, refl, subst, arith}
+use Rattle.std.proofs.Common.{ℕ, get_or, refl, subst}
 use Rattle.marks.specs.declared.mark.Mark.TheVariants.{Fact, LeftOut}
 use Rattle.marks.specs.Tables.{opp_lit}
 use Rattle.marks.specs.Grows.{Added}
 use Rattle.marks.specs.Rules.{On, Holds}
-use Rattle.marks.proofs.Trail.{opp_lit_small}
 use Rattle.marks.proofs.Growth.{grows_trans, has_grows}
 use Rattle.marks.proofs.Closure.{worked_trans, follows_map}
 use Rattle.marks.proofs.Spread.{clause_worked}
 use Rattle.marks.proofs.tables.Marks.spread_fact.Goals as goal
 
-pub spread_back-requires : goal.spread_back-requires
-spread_back-requires c = let g = c.spread_from.ensures.worked.grows in
-    record { time = omega (arith, c.requires.time, g.same_length); literal = c.requires.literal; there = g.keeps (Fact c.args.t c.args.l) c.requires.there }
-
-pub bounds-ix-opposite_literal : goal.bounds-ix-opposite_literal
-bounds-ix-opposite_literal c = subst (λ (k : ℕ). k < 128) (sym c.opposite_literal.ensures) (opp_lit_small c.args.l c.requires.literal)
+pub spread_back-requires-clause-there : goal.spread_back-requires-clause-there
+spread_back-requires-clause-there c = c.spread_from.ensures.worked.grows.keeps (Fact c.args.t c.args.l.number) c.requires.there
 
 pub returns : goal.returns
 returns c =
-    let ix = c.args.ix.now in let t = c.args.t in let l = c.args.l in
+    let ix = c.args.ix.now in let t = c.args.t in let l = c.args.l.number in
     let a = c.args.self.now in let b1 = c.spread_from.new.self in let b2 = c.spread_back.new.self in
     let w1 = c.spread_from.ensures in let w2 = c.spread_back.ensures in
     let d : Added b2 (Holds (get_or ix.clauses (opp_lit l) no_literals) t) c.hold_all.new.self
-    = subst (λ (k : ℕ). Added b2 (Holds (get_or ix.clauses k no_literals) t) c.hold_all.new.self) c.opposite_literal.ensures c.hold_all.ensures in
+    = subst (λ (k : ℕ). Added b2 (Holds (get_or ix.clauses k no_literals) t) c.hold_all.new.self) c.opposite.ensures c.hold_all.ensures in
     let k1 = w1.worked.grows.keeps (Fact t l) c.requires.there in let k2 = w2.worked.grows.keeps (Fact t l) k1 in
     let g = grows_trans w2.worked.grows d.grows in
     record {

@@ -1,28 +1,18 @@
 use Rattle.sets.specs.Sets.{no_steps}
-use Rattle.std.proofs.Common.{ℕ, ◌<◌, get_or, sym, refl, subst, arith}
+use Rattle.std.proofs.Common.{ℕ, get_or, refl, subst, arith}
 use Rattle.marks.specs.declared.mark.Mark.TheVariants.{LeftOut}
 use Rattle.marks.specs.Tables.{opp_lit}
 use Rattle.marks.specs.Grows.{Added}
 use Rattle.marks.specs.Rules.{On, LeavesOut, Concluded}
-use Rattle.marks.proofs.Trail.{opp_lit_small}
 use Rattle.marks.proofs.Growth.{has_grows}
 use Rattle.marks.proofs.Closure.{worked_trans, check_worked, check_follows, follows_map}
 use Rattle.marks.proofs.Spread.{need_false_worked}
 use Rattle.marks.proofs.tables.Marks.spread_from.Goals as goal
 
-pub bounds-ix-f : goal.bounds-ix-f
-bounds-ix-f c = subst (λ (k : ℕ). k < 128) (sym c.opposite_literal-f.ensures) (opp_lit_small c.args.l c.requires.literal)
-
-pub check-requires : goal.check-requires
-check-requires c = (
-  omega (arith, c.if-t-self.true, c.leave_all.ensures.grows.same_length),
-  subst (λ (k : ℕ). k < 128) (sym c.opposite_literal-f.ensures) (opp_lit_small c.args.l c.requires.literal),
-)
-
 pub returns-then-t-self : goal.returns-then-t-self
 returns-then-t-self c =
-    let ix = c.args.ix.now in let t = c.args.t in let l = c.args.l in let a = c.args.self.now in let b = c.leave_all.new.self in
-    let f = c.opposite_literal-f.ensures in
+    let ix = c.args.ix.now in let t = c.args.t in let l = c.args.l.number in let a = c.args.self.now in let b = c.leave_all.new.self in
+    let f = c.opposite-f.ensures in
     let d1 : Added a (LeavesOut (get_or ix.needers (opp_lit l) no_steps) t) b = subst (λ (k : ℕ). Added a (LeavesOut (get_or ix.needers k no_steps) t) b) f c.leave_all.ensures in
     let d2 : Added b (Concluded ix (On b) t (opp_lit l)) c.check.new.self = subst (λ (k : ℕ). Added b (Concluded ix (On b) t k) c.check.new.self) f c.check.ensures in
     record {

@@ -1,22 +1,18 @@
 use Rattle.sets.specs.Sets.{no_steps}
-use Rattle.std.proofs.Common.{ℕ, ◌<◌, get_or, sym, refl, subst, arith}
+use Rattle.std.proofs.Common.{ℕ, get_or, refl, subst, arith}
 use Rattle.marks.specs.declared.mark.Mark.TheVariants.{LeftOut}
 use Rattle.marks.specs.Tables.{opp_lit}
 use Rattle.marks.specs.Grows.{Added}
 use Rattle.marks.specs.Rules.{On, LeavesOut}
-use Rattle.marks.proofs.Trail.{opp_lit_small}
 use Rattle.marks.proofs.Growth.{has_grows}
 use Rattle.marks.proofs.Closure.{worked_trans, check_worked, check_follows, follows_map}
 use Rattle.marks.proofs.Spread.{make_false_worked}
 use Rattle.marks.proofs.tables.Marks.spread_to.Goals as goal
 
-pub bounds-ix-opposite_literal : goal.bounds-ix-opposite_literal
-bounds-ix-opposite_literal c = subst (λ (k : ℕ). k < 128) (sym c.opposite_literal.ensures) (opp_lit_small c.args.l c.requires.literal)
-
 pub returns : goal.returns
 returns c =
-    let ix = c.args.ix.now in let t = c.args.t in let l = c.args.l in let a = c.args.self.now in let b = c.leave_all.new.self in
-    let d1 : Added a (LeavesOut (get_or ix.makers (opp_lit l) no_steps) t) b = subst (λ (k : ℕ). Added a (LeavesOut (get_or ix.makers k no_steps) t) b) c.opposite_literal.ensures c.leave_all.ensures in
+    let ix = c.args.ix.now in let t = c.args.t in let l = c.args.l.number in let a = c.args.self.now in let b = c.leave_all.new.self in
+    let d1 : Added a (LeavesOut (get_or ix.makers (opp_lit l) no_steps) t) b = subst (λ (k : ℕ). Added a (LeavesOut (get_or ix.makers k no_steps) t) b) c.opposite.ensures c.leave_all.ensures in
     let d2 = c.check.ensures in
     record {
       worked = worked_trans (make_false_worked ix t l c.requires.time c.requires.there d1)

@@ -8,7 +8,7 @@ invariant_of-self c = record {
   short = c.requires;
   room = omega arith;
   passed = omega arith;
-  listed = listed_none c.empty-self.result c.empty-self-2.result c.empty-self-3.result c.empty-self.ensures.members c.empty-self-2.ensures c.empty-self-3.ensures c.args.self.now.trail;
+  listed = listed_none c.none-self.result c.none-self.ensures c.args.self.now.trail;
   ranged = λ i h. absurd (omega arith);
   apart = λ i j h k. absurd (omega arith);
 }

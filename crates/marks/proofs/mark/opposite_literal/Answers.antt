@@ -1,6 +1,6 @@
 use Rattle.std.proofs.Common.{ℕ, ◌<◌, sym, subst, arith, rules}
 use Rattle.marks.proofs.Trail.{opp_is, opp_lit_byte}
-use Rattle.marks.proofs.put.opposite_literal.Goals as goal
+use Rattle.marks.proofs.mark.opposite_literal.Goals as goal
 
 pub overflow_cast-result : goal.overflow_cast-result
 overflow_cast-result c =

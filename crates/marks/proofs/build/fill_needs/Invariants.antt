@@ -1,8 +1,0 @@
-use Rattle.std.proofs.Common.{◌≡◌, ℕ, ◌<◌, length, get_or}
-use Rattle.sets.specs.Sets.{no_literals}
-use Rattle.model.specs.Problems.{step}
-use Rattle.model.specs.Held.{problem_of}
-use Rattle.marks.proofs.build.fill_needs.Given as goal
-
-abbrev pub invariant-loop-o : goal.invariant-loop-o
-invariant-loop-o l = ((i : ℕ) → i < l.o → get_or l.rows i no_literals ≡ (step (problem_of l.problem) i).needs) × (length l.rows ≡ 256)
