@@ -25,9 +25,8 @@ mod tests {
     fn index_of<S: ProblemSource>(source: &S) -> Index {
         let table = ProblemTable::of(source);
         let record = ClauseRecord::of(source);
-        let rows = record.rows();
         let mut index = Index::empty();
-        index.build(&table, &rows);
+        index.build(&table, record.rows());
         index
     }
 

@@ -1,9 +1,9 @@
 -- The laws of a table of pairs.
 use Rattle.std.proofs.Common.{◌≡◌, ℕ, zero, suc, ◌+◌, ◌/◌, ◌%◌, ◌<◌, ◌≤◌, Bool, true, false, cond, not, ◌&&◌, ◌||◌, eqb, ltb, ◌⊎◌, List, [], ◌∷◌, length, get_or, set, replicate, sym, refl, ap, ◌∙◌, subst, ap₂, inl, inr, ⊎_elim, arith, get_or-set_other, get_or-set_same}
-use Rattle.std.proofs.lemmas.Bool.{cases_eq, cases_lt, eq-eqb, ne_eqb, both_ways, or_right, and_from, and_left, and_parts, lt-ltb, ltb-true, cond-true, cond-false}
+use Rattle.std.proofs.lemmas.Bool.{cases_eq, cases_lt, eq-eqb, ne_eqb, both_ways, or_right, and_from, and_left, lt-ltb, ltb-true, cond-true}
 use Rattle.std.proofs.lemmas.Bool.Decides.{nat_tests}
 use Rattle.sets.specs.Literals.{Literal, pos, neg, fact, code, lit}
-use Rattle.model.specs.Problems.{Problem, value, start_state}
+use Rattle.model.specs.Problems.{Problem, StartLiterals, value, start_state}
 use Rattle.clauses.specs.Striking.{Good}
 use Rattle.sets.specs.Sets.{fact_in, lit_in, no_literals}
 use Rattle.sets.proofs.Bits.{has_zero}
@@ -75,15 +75,7 @@ struck_row xs a b s h f k l = go (cases_eq (code k) a)
 
 -- ---- a walk over the literals by their numbers
 
--- what holds of every literal before number a, and of that one, holds of all before a + 1
-pub step_lit : (P : Literal → Type 0) (a : ℕ) → ((x : Literal) → code x < a → P x) → P (lit a) → (x : Literal) → code x < a + 1 → P x
-step_lit P a f here x lt = go (cases_lt (code x) a)
-  where
-    go : (code x < a) ⊎ (a ≤ code x) → P x
-    go (inl l) = f x l
-    go (inr l) = let e : code x ≡ a = omega arith in subst P (ap lit (sym e) ∙ lit_code x) here
-
--- the same where the walk passes over what is not in the set
+-- what holds of the members before number `from`, and of number a, holds of those before a + 1 where there are none between
 pub walk_lit : (P : Literal → Type 0) (s : LiteralSet) (from a : ℕ) → ((x : Literal) → code x < from → lit_in s x ≡ true → P x)
     → ((b : ℕ) → from ≤ b → b < a → lit_in s (lit b) ≡ false) → P (lit a) → (x : Literal) → code x < a + 1 → lit_in s x ≡ true → P x
 walk_lit P s from a f gap here x lt m = go (cases_lt (code x) from) (cases_lt (code x) a)
@@ -133,20 +125,6 @@ single_all m x a v h e = e ∙ go (rel m x x) refl
     go true q = lt-ltb (code x) a (omega (arith, rel_narrow m x x q))
     go false q = refl
 
--- one row replaced
-pub put_row : (xs : List LiteralSet) (a : ℕ) (s : LiteralSet) → a < length xs → (k l : Literal)
-    → lit_in (get_or (set xs a s) (code k) no_literals) l ≡ cond (eqb (code k) a) (lit_in s l) (lit_in (get_or xs (code k) no_literals) l)
-put_row xs a s h k l = go (cases_eq (code k) a)
-  where
-    go : (code k ≡ a) ⊎ (code k ≡ a → ⊥)
-        → lit_in (get_or (set xs a s) (code k) no_literals) l ≡ cond (eqb (code k) a) (lit_in s l) (lit_in (get_or xs (code k) no_literals) l)
-    go (inl e) =
-        let same : get_or (set xs a s) (code k) no_literals ≡ s = ap (λ (n : ℕ). get_or (set xs a s) n no_literals) e ∙ rw get_or-set_same in
-        ap (λ (t : LiteralSet). lit_in t l) same ∙ sym (cond-true (eqb (code k) a) (lit_in s l) (lit_in (get_or xs (code k) no_literals) l) (eq-eqb (code k) a e))
-    go (inr n) =
-        let other : get_or (set xs a s) (code k) no_literals ≡ get_or xs (code k) no_literals = rw get_or-set_other in
-        ap (λ (t : LiteralSet). lit_in t l) other ∙ sym (cond-false (eqb (code k) a) (lit_in s l) (lit_in (get_or xs (code k) no_literals) l) (ne_eqb (code k) a n))
-
 -- ---- the pairs at the start: `all` has the problem's literals, `first` those of them that hold
 
 abbrev pub paired : LiteralSet → LiteralSet → Literal → Literal → Bool
@@ -154,7 +132,7 @@ paired all first k x = cond (lit_in first k) (lit_in all x) (cond (lit_in all k)
 
 module _ (p : Problem) (few : p.facts ≤ 64) (all first : LiteralSet)
     (in_all : (l : Literal) → lit_in all l ≡ ltb (fact l) p.facts)
-    (in-first : (l : Literal) → lit_in first l ≡ (ltb (fact l) p.facts && value (start_state p) l)) where
+    (starts : StartLiterals p first) where
   -- a pair is in the table where both are the problem's and one holds
   pub paired_is : (k x : Literal) → paired all first k x ≡ true
       → (fact k < p.facts) × (fact x < p.facts) × ((value (start_state p) k ≡ true) ⊎ (value (start_state p) x ≡ true))
@@ -162,12 +140,8 @@ module _ (p : Problem) (few : p.facts ≤ 64) (all first : LiteralSet)
     where
       go : (f a : Bool) → lit_in first k ≡ f → lit_in all k ≡ a → cond f (lit_in all x) (cond a (lit_in first x) false) ≡ true
           → (fact k < p.facts) × (fact x < p.facts) × ((value (start_state p) k ≡ true) ⊎ (value (start_state p) x ≡ true))
-      go true a e q h =
-          let u = and_parts (ltb (fact k) p.facts) (value (start_state p) k) (sym (in-first k) ∙ e) in
-          (ltb-true (fact k) p.facts u.0, ltb-true (fact x) p.facts (sym (in_all x) ∙ h), inl u.1)
-      go false true e q h =
-          let u = and_parts (ltb (fact x) p.facts) (value (start_state p) x) (sym (in-first x) ∙ h) in
-          (ltb-true (fact k) p.facts (sym (in_all k) ∙ q), ltb-true (fact x) p.facts u.0, inr u.1)
+      go true a e q h = let u = starts.only k e in (u.0, ltb-true (fact x) p.facts (sym (in_all x) ∙ h), inl u.1)
+      go false true e q h = let u = starts.only x h in (ltb-true (fact k) p.facts (sym (in_all k) ∙ q), u.0, inr u.1)
       go false false e q h = absurd (both_ways false refl h)
 
   pub paired_from : (k x : Literal) → fact k < p.facts → fact x < p.facts → (value (start_state p) k ≡ true) ⊎ (value (start_state p) x ≡ true) → paired all first k x ≡ true
@@ -181,8 +155,8 @@ module _ (p : Problem) (few : p.facts ≤ 64) (all first : LiteralSet)
 
       go : (f : Bool) → lit_in first k ≡ f → (value (start_state p) k ≡ true) ⊎ (value (start_state p) x ≡ true) → cond f (lit_in all x) (cond (lit_in all k) (lit_in first x) false) ≡ true
       go true e s = all_x
-      go false e (inl h) = absurd (both_ways (lit_in first k) e (in-first k ∙ and_from _ _ (lt-ltb (fact k) p.facts lk) h))
-      go false e (inr h) = cond-true (lit_in all k) (lit_in first x) false all_k ∙ in-first x ∙ and_from _ _ (lt-ltb (fact x) p.facts lx) h
+      go false e (inl h) = absurd (both_ways (lit_in first k) e (starts.all k lk h))
+      go false e (inr h) = cond-true (lit_in all k) (lit_in first x) false all_k ∙ starts.all x lx h
 
   code_narrow : (k : Literal) → fact k < 64 → code k < 128
   unfolding code

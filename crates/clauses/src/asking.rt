@@ -14,13 +14,11 @@ impl ClauseRecord {
     pub fn kept(&self, a: usize, b: usize) -> Result<bool, Decline>
         ensures { result ≡ kept_answer self.now a b }
     {
-        if a / 2 >= self.facts {
-            return Err(Decline::OutOfRange);
+        if a / 2 < self.facts && b / 2 < self.facts {
+            Ok(self.pairs.contains(a, b))
+        } else {
+            Err(Decline::OutOfRange)
         }
-        if b / 2 >= self.facts {
-            return Err(Decline::OutOfRange);
-        }
-        Ok(self.pairs.contains(a, b))
     }
 
     // The literals that a literal is kept in a pair with.
@@ -31,8 +29,8 @@ impl ClauseRecord {
     }
 
     // By a literal's number, the literals that it is kept in a pair with.
-    pub fn rows(&self) -> [LiteralSet; 128]
-        ensures { (a b : Literal) → lit_in (slice_index_or result (code a) no_literals) b ≡ kept_in self.now a b }
+    pub fn rows(&self) -> &[LiteralSet; 128]
+        ensures { (a b : Literal) → lit_in (slice_index_or result.now (code a) no_literals) b ≡ kept_in self.now a b }
     {
         self.pairs.table()
     }

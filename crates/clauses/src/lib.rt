@@ -3,7 +3,10 @@
 
 pub mod asking;
 mod making;
+mod noting;
+pub mod number;
 pub mod pairs;
 pub mod record;
 mod rows;
 mod striking;
+pub mod waiting;

@@ -1,72 +1,37 @@
 // Making the clause record: all pairs that are true at the start, less what steps spoil, until nothing awaits another look.
-ghost use Rattle.std.specs.Prelude.{◌≡◌, ℕ, ◌+◌, ◌<◌, true, false, [], ◌∷◌, ◌++◌, MatchBool, MatchOption};
+ghost use Rattle.std.specs.Prelude.{◌≡◌, ℕ, ◌<◌, true, false};
 ghost use Rattle.sets.specs.Literals.{Literal};
 ghost use Rattle.model.specs.Held.{problem_of};
 ghost use Rattle.model.specs.Problems.{steps};
 ghost use Rattle.model.specs.Clauses.{Largest};
-ghost use Rattle.clauses.specs.Waiting.{Gathered, Due, Idle, Moved, Visited, Ready, waiting, size, kept_in};
+ghost use Rattle.clauses.specs.Waiting.{Due, Idle, Moved, Visited, Ready, size, kept_in};
 
 use crate::pairs::Pairs;
 use crate::record::ClauseRecord;
+use crate::waiting::{Touched, Waiting};
 use model::source::ProblemSource;
 use model::table::ProblemTable;
-use sets::facts::{LiteralSet, flip};
-use sets::stack::Stack;
 
 impl ClauseRecord {
-    // The newest pair that awaits.
-    fn pop(&mut self) -> Option<(u8, u8)>
-        ensures facts { self.new.facts ≡ self.old.facts }
-        ensures pairs { self.new.pairs ≡ self.old.pairs }
-        ensures again { self.new.again ≡ self.old.again }
-        ensures top { MatchOption result ((self.old.wait_len ≡ 0) × (self.new.wait_len ≡ 0))
-            (λ x. (waiting self.old ≡ waiting self.new ++ x ∷ []) × (self.new.wait_len + 1 ≡ self.old.wait_len)) }
-    {
-        let mut waiting = Stack::resume(&mut self.wait, self.wait_len);
-        let top = waiting.pop();
-        self.wait_len = waiting.len();
-        top
-    }
-
-    // Takes up all pairs that await: the needs whose steps look at one of them. A literal paired with itself is looked at by every step.
-    fn gather(&mut self) -> LiteralSet
-        ensures { Gathered self.old self.new result }
-    {
-        let mut touched = LiteralSet::empty();
-        while let Some((a, b)) = self.pop() {
-            self.again = self.again | (a == b);
-            touched = touched.insert(flip(a as usize)).insert(flip(b as usize));
-        }
-        touched
-    }
-
     // Looks again at the step if it is due.
-    fn visit(&mut self, problem: &ProblemTable, o: usize, touched: LiteralSet, all: bool)
+    fn visit(&mut self, problem: &ProblemTable, o: usize, touched: Touched)
         ensures moved { Moved (problem_of problem.now) self.old self.new }
-        ensures here { Visited (problem_of problem.now) self.old self.new o (Due (problem_of problem.now) o touched all) }
+        ensures here { Visited (problem_of problem.now) self.old self.new o (Due (problem_of problem.now) o touched) }
     {
-        if !due(problem, o, touched, all) {
-            return;
+        if touched.concerns(problem, o) {
+            self.examine(problem, o);
         }
-        self.examine(problem, o);
     }
 
     // Looks again at each step that is due.
-    fn sweep(&mut self, problem: &ProblemTable, touched: LiteralSet, all: bool)
+    fn sweep(&mut self, problem: &ProblemTable, touched: Touched)
         ensures moved { Moved (problem_of problem.now) self.old self.new }
         ensures here { (o : ℕ) → o < steps (problem_of problem.now)
-            → Visited (problem_of problem.now) self.old self.new o (Due (problem_of problem.now) o touched all) }
+            → Visited (problem_of problem.now) self.old self.new o (Due (problem_of problem.now) o touched) }
     {
         for o in 0..problem.steps() {
-            self.visit(problem, o, touched, all);
+            self.visit(problem, o, touched);
         }
-    }
-
-    // Whether nothing awaits.
-    fn idle(&self) -> bool
-        ensures { MatchBool result (Idle self.now) (Idle self.now → ⊥) }
-    {
-        self.wait_len == 0 && !self.again
     }
 
     // Takes up what awaits. Whether there was anything.
@@ -74,15 +39,13 @@ impl ClauseRecord {
         ensures facts { self.new.facts ≡ self.old.facts }
         ensures ready { Ready (problem_of problem.now) self.old → Ready (problem_of problem.now) self.new }
         ensures falls { result ≡ true → size self.new < size self.old }
-        ensures ends { result ≡ false → Idle self.new }
+        ensures ends { result ≡ false → Idle self.new.waiting }
     {
-        if self.idle() {
+        if self.waiting.idle() {
             return false;
         }
-        let touched = self.gather();
-        let all = self.again;
-        self.again = false;
-        self.sweep(problem, touched, all);
+        let touched = self.waiting.gather();
+        self.sweep(problem, touched);
         true
     }
 
@@ -101,9 +64,7 @@ impl ClauseRecord {
         ClauseRecord {
             facts: 0,
             pairs: Pairs::empty(),
-            wait: [(0, 0); 8256],
-            wait_len: 0,
-            again: false,
+            waiting: Waiting::none(),
         }
     }
 
@@ -113,9 +74,8 @@ impl ClauseRecord {
         ensures largest { Largest (problem_of problem.now) (kept_in self.new) }
     {
         self.facts = problem.facts();
-        self.pairs.fill(problem);
-        self.wait_len = 0;
-        self.again = true;
+        self.pairs = Pairs::at_start(problem);
+        self.waiting.begin();
         self.settle(problem);
     }
 
@@ -129,14 +89,4 @@ impl ClauseRecord {
         record.make(&table);
         record
     }
-}
-
-// Whether the step looks at a pair that was taken up, or all are to be looked at.
-fn due(problem: &ProblemTable, o: usize, touched: LiteralSet, all: bool) -> bool
-    ensures { MatchBool result (Due (problem_of problem.now) o touched all) (Due (problem_of problem.now) o touched all → ⊥) }
-{
-    if all {
-        return true;
-    }
-    problem.step(o).needs.intersects(touched)
 }

@@ -1,24 +1,25 @@
 // Reading and changing a table of pairs.
-ghost use Rattle.std.specs.Prelude.{◌≡◌, ◌<◌, ◌≤◌, true, false, not, ◌&&◌, ◌||◌, if◌then◌else◌, ◌==◌, nat_eq, nat_lt, slice_index_or};
+ghost use Rattle.std.specs.Prelude.{◌≡◌, ◌<◌, ◌≤◌, true, false, not, ◌&&◌, ◌||◌, if◌then◌else◌, ◌==◌, nat_lt, slice_index_or};
 ghost use Rattle.sets.specs.Sets.{lit_in, no_literals};
 ghost use Rattle.sets.specs.Literals.{Literal, fact, lit, code};
 ghost use Rattle.model.specs.Held.{problem_of};
-ghost use Rattle.model.specs.Problems.{start_state, value};
 ghost use Rattle.model.specs.Clauses.{Clause};
 ghost use Rattle.clauses.specs.Pairs.{rel, load, Linked};
 ghost use Rattle.clauses.specs.Striking.{Good};
 
+use crate::number::LiteralNumber;
 use crate::pairs::Pairs;
 use model::source::ProblemSource;
 use model::table::ProblemTable;
 use sets::facts::{FactSet, LiteralSet};
+use std::array;
 
 impl Pairs {
     // The rows.
-    pub(crate) fn table(&self) -> [LiteralSet; 128]
-        ensures { (a b : Literal) → lit_in (slice_index_or result (code a) no_literals) b ≡ rel self.now a b }
+    pub(crate) fn table(&self) -> &[LiteralSet; 128]
+        ensures { (a b : Literal) → lit_in (slice_index_or result.now (code a) no_literals) b ≡ rel self.now a b }
     {
-        self.rows
+        &self.rows
     }
 
     // No pairs.
@@ -47,22 +48,21 @@ impl Pairs {
         self.row(a).contains(b)
     }
 
-    fn strike_one(&mut self, a: usize, b: usize)
-        requires { a < 128 }
-        ensures pairs { (k l : Literal) → rel self.new k l ≡ (rel self.old k l && not (code k == a && code l == b)) }
+    fn strike_one(&mut self, a: LiteralNumber, b: LiteralNumber)
+        ensures pairs { (k l : Literal) → rel self.new k l ≡ (rel self.old k l && not (code k == a.number && code l == b.number)) }
         ensures less { load self.new ≤ load self.old }
-        ensures falls { rel self.old (lit a) (lit b) ≡ true → load self.new < load self.old }
+        ensures falls { rel self.old (lit a.number) (lit b.number) ≡ true → load self.new < load self.old }
     {
-        self.rows[a] = self.rows[a].remove(b);
+        let row = a.number as usize;
+        self.rows[row] = self.rows[row].remove(b.number as usize);
     }
 
     // Strikes the pair, in both orders.
-    pub(crate) fn strike(&mut self, a: usize, b: usize)
-        requires { (a < 128) × (b < 128) }
+    pub(crate) fn strike(&mut self, a: LiteralNumber, b: LiteralNumber)
         ensures pairs { (k l : Literal) → rel self.new k l
-            ≡ (rel self.old k l && not ((code k == a && code l == b) || (code k == b && code l == a))) }
+            ≡ (rel self.old k l && not ((code k == a.number && code l == b.number) || (code k == b.number && code l == a.number))) }
         ensures less { load self.new ≤ load self.old }
-        ensures falls { rel self.old (lit a) (lit b) ≡ true → load self.new < load self.old }
+        ensures falls { rel self.old (lit a.number) (lit b.number) ≡ true → load self.new < load self.old }
     {
         self.strike_one(a, b);
         self.strike_one(b, a);
@@ -95,22 +95,14 @@ impl Pairs {
         all
     }
 
-    fn put_row(&mut self, a: usize, row: LiteralSet)
-        requires { a < 128 }
-        ensures { (k x : Literal) → rel self.new k x ≡ (if nat_eq (code k) a then lit_in row x else rel self.old k x) }
-    {
-        self.rows[a] = row;
-    }
-
     // Every pair of the problem's literals of which one holds at the start.
-    pub(crate) fn fill(&mut self, problem: &ProblemTable)
-        ensures { Good (problem_of problem.now) (rel self.new) }
+    pub(crate) fn at_start(problem: &ProblemTable) -> Pairs
+        ensures { Good (problem_of problem.now) (rel result) }
     {
         let all = every_literal(problem);
-        let first = first_literals(problem);
-        for a in 0..128 {
-            let row = first_row(all, first, a);
-            self.put_row(a, row);
+        let first = problem.start_literals();
+        Pairs {
+            rows: array::from_fn(|a| first_row(all, first, a)),
         }
     }
 }
@@ -122,23 +114,14 @@ fn every_literal(problem: &ProblemTable) -> LiteralSet
     LiteralSet::new(all, all)
 }
 
-// The problem's literals that hold at the start.
-fn first_literals(problem: &ProblemTable) -> LiteralSet
-    ensures { (l : Literal) → lit_in result l ≡ (nat_lt (fact l) (problem_of problem.now).facts && value (start_state (problem_of problem.now)) l) }
-{
-    let all = FactSet::below(problem.facts());
-    let falsities = all.minus(problem.start());
-    LiteralSet::new(all.minus(falsities), falsities)
-}
-
 fn first_row(all: LiteralSet, first: LiteralSet, a: usize) -> LiteralSet
     ensures { (x : Literal) → lit_in result x ≡ (if lit_in first (lit a) then lit_in all x else (if lit_in all (lit a) then lit_in first x else false)) }
 {
     if first.contains(a) {
-        return all;
+        all
+    } else if all.contains(a) {
+        first
+    } else {
+        LiteralSet::empty()
     }
-    if all.contains(a) {
-        return first;
-    }
-    LiteralSet::empty()
 }

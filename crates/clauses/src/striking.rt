@@ -1,65 +1,48 @@
 // Striking what a step spoils; each struck pair then awaits another look.
-ghost use Rattle.std.specs.Prelude.{◌≡◌, ◌<◌, true, false};
+ghost use Rattle.std.specs.Prelude.{◌≡◌, true, false};
 ghost use Rattle.sets.specs.Sets.{lit_in};
 ghost use Rattle.sets.specs.Literals.{Literal, lit, code};
 ghost use Rattle.model.specs.Held.{problem_of};
 ghost use Rattle.clauses.specs.Striking.{Spoilt, Settled};
-ghost use Rattle.clauses.specs.Waiting.{Held, Noted, Struck, kept_in};
+ghost use Rattle.clauses.specs.Waiting.{Struck, kept_in};
 
+use crate::number::LiteralNumber;
 use crate::record::ClauseRecord;
 use model::source::ProblemSource;
 use model::table::ProblemTable;
 use sets::facts::LiteralSet;
-use sets::stack::Stack;
 
 impl ClauseRecord {
-    // The pair awaits a look; where there is no room, every step does.
-    fn note(&mut self, a: usize, b: usize)
-        requires { (a < 128) × (b < 128) }
-        ensures noted { Noted self.old self.new }
-        ensures held { self.new.again ≡ false → Held self.new a b }
-    {
-        let mut waiting = Stack::resume(&mut self.wait, self.wait_len);
-        let ok = waiting.push((a as u8, b as u8));
-        self.wait_len = waiting.len();
-        if !ok {
-            self.again = true;
-        }
-    }
-
     // Strikes the pair, if it still stands.
-    fn strike(&mut self, a: usize, b: usize)
-        requires { (a < 128) × (b < 128) }
-        ensures struck { Struck self.old self.new (λ k x. (code k ≡ a) × (code x ≡ b)) }
-        ensures done { kept_in self.new (lit a) (lit b) ≡ false }
+    fn strike(&mut self, a: LiteralNumber, b: LiteralNumber)
+        ensures struck { Struck self.old self.new (λ k x. (code k ≡ a.number) × (code x ≡ b.number)) }
+        ensures done { kept_in self.new (lit a.number) (lit b.number) ≡ false }
     {
-        if !self.pairs.contains(a, b) {
+        if !self.pairs.contains(a.number as usize, b.number as usize) {
             return;
         }
         self.pairs.strike(a, b);
-        self.note(a, b);
+        self.waiting.note(a, b);
     }
 
     // Strikes a's pairs with all of `gone`.
-    fn strike_all(&mut self, a: usize, gone: LiteralSet)
-        requires { a < 128 }
-        ensures struck { Struck self.old self.new (λ k x. (code k ≡ a) × (lit_in gone x ≡ true)) }
-        ensures done { (x : Literal) → lit_in gone x ≡ true → kept_in self.new (lit a) x ≡ false }
+    fn strike_all(&mut self, a: LiteralNumber, gone: LiteralSet)
+        ensures struck { Struck self.old self.new (λ k x. (code k ≡ a.number) × (lit_in gone x ≡ true)) }
+        ensures done { (x : Literal) → lit_in gone x ≡ true → kept_in self.new (lit a.number) x ≡ false }
     {
         let mut from = 0;
         while let Some(b) = gone.next_from(from) {
-            self.strike(a, b);
+            self.strike(a, LiteralNumber { number: b as u8 });
             from = b + 1;
         }
     }
 
     // Strikes a's pairs with all but the safe literals.
-    fn strike_row(&mut self, a: usize, safe: LiteralSet)
-        requires { a < 128 }
-        ensures struck { Struck self.old self.new (λ k x. (code k ≡ a) × (lit_in safe x ≡ false)) }
-        ensures done { (x : Literal) → lit_in safe x ≡ false → kept_in self.new (lit a) x ≡ false }
+    fn strike_row(&mut self, a: LiteralNumber, safe: LiteralSet)
+        ensures struck { Struck self.old self.new (λ k x. (code k ≡ a.number) × (lit_in safe x ≡ false)) }
+        ensures done { (x : Literal) → lit_in safe x ≡ false → kept_in self.new (lit a.number) x ≡ false }
     {
-        let gone = self.pairs.row(a).minus(safe);
+        let gone = self.pairs.row(a.number as usize).minus(safe);
         self.strike_all(a, gone);
     }
 
@@ -70,7 +53,7 @@ impl ClauseRecord {
     {
         let mut from = 0;
         while let Some(a) = undone.next_from(from) {
-            self.strike_row(a, safe);
+            self.strike_row(LiteralNumber { number: a as u8 }, safe);
             from = a + 1;
         }
     }

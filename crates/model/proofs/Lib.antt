@@ -17,3 +17,4 @@ pub mod Keeping
 pub mod KeptOnce
 pub mod SeenOnce
 pub mod Copies
+pub mod Made

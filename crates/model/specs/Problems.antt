@@ -68,6 +68,11 @@ Makes p o l = l ∈ (step p o).makes
 abbrev pub start_state : Problem → State
 start_state p = λ f. fact_in p.start f
 
+-- the set is that of the literals of the problem's facts that hold at the start
+pub record StartLiterals (p : Problem) (s : LiteralSet) : Type 0 where
+  pub only : (l : Literal) → l ∈ s → (fact l < p.facts) × Holds (start_state p) l
+  pub all : (l : Literal) → fact l < p.facts → Holds (start_state p) l → l ∈ s
+
 -- every literal of the set names a fact of the problem
 abbrev pub InRange : Problem → LiteralSet → Type 0
 InRange p s = (l : Literal) → l ∈ s → fact l < p.facts

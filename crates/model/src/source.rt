@@ -1,6 +1,6 @@
 // What a problem source is: it means one problem, and answers its parts.
 ghost use Rattle.std.specs.Prelude.{◌≡◌};
-ghost use Rattle.model.specs.Problems.{Problem, WellFormed, steps, step as row};
+ghost use Rattle.model.specs.Problems.{Problem, WellFormed, StartLiterals, steps, step as row};
 
 use crate::step::Step;
 use sets::facts::{FactSet, LiteralSet};
@@ -28,6 +28,14 @@ pub trait ProblemSource {
 
     fn goal(&self) -> LiteralSet
         ensures { result ≡ (meaning self.now).goal };
+
+    // The literals that hold at the start.
+    final fn start_literals(&self) -> LiteralSet
+        ensures { StartLiterals (meaning self.now) result }
+    {
+        let truths = self.start();
+        LiteralSet::new(truths, FactSet::below(self.facts()).minus(truths))
+    }
 
     ghost limits: { (s : Self) → WellFormed (meaning s) };
 }

@@ -1,15 +1,15 @@
 -- The reach set: a round through the steps, what a round that brings nothing shows, and the filter that follows.
-use Rattle.std.specs.Prelude.{◌≡◌, ℕ, ◌+◌, ◌<◌, ◌≤◌, Bool, true, false, not, ◌&&◌, ◌≢◌, List, length, MatchBool, slice_index_or, slice_set, refl}
-use Rattle.std.proofs.Common.{sym, ap, subst, ◌∙◌, ⊎_elim, arith, below_more, get_or-set_same, get_or-set_other}
+use Rattle.std.specs.Prelude.{◌≡◌, ℕ, ◌+◌, ◌<◌, ◌≤◌, Bool, true, false, not, ◌&&◌, List, MatchBool, slice_index_or, refl}
+use Rattle.std.proofs.Common.{sym, ap, subst, ◌∙◌, ⊎_elim, arith, below_more}
 use Rattle.std.proofs.lemmas.List.{get_or_past, ext_get_or}
 use Rattle.std.proofs.lemmas.Bool.{and_parts, and_from, cases_Bool, cases_lt, true≢false, not-true}
 use Rattle.sets.specs.Literals.{Literal, code}
 use Rattle.sets.specs.Sets.{lit_in}
 use Rattle.sets.specs.declared.facts.LiteralSet.{LiteralSet}
 use Rattle.model.specs.declared.step.Step.{Step}
-use Rattle.model.specs.Problems.{Problem, WellFormed, steps, step, closed_step, Open, InRange, Consistent, ◌∈◌}
+use Rattle.model.specs.Problems.{Problem, WellFormed, StartLiterals, steps, step, closed_step, Open, InRange, Consistent, ◌∈◌}
 use Rattle.sources.specs.Reach.{Reached, Filters, Exact, closing}
-use Rattle.sources.specs.Rounds.{Within, Outside, OfStart, Widened, Sound, ClosedTo, Round, ReachSet}
+use Rattle.sources.specs.Rounds.{Within, Outside, Widened, Sound, ClosedTo, Round, ReachSet}
 use Rattle.sources.specs.Tables.{closing_step, closing_steps}
 
 -- ---- what `subset` answers
@@ -73,15 +73,15 @@ open_within p o h =
     (cases_lt o (steps p))
 
 -- a set that holds the start and is closed under the steps holds all that can be reached
-pub complete : (p : Problem) (a b : LiteralSet) → OfStart p a → Within a b → ClosedTo p b (steps p) → {l : Literal} → Reached p l → l ∈ b
+pub complete : (p : Problem) (a b : LiteralSet) → StartLiterals p a → Within a b → ClosedTo p b (steps p) → {l : Literal} → Reached p l → l ∈ b
 complete p a b s w c (Reached.at_start l h k) = w l (s.all l h k)
 complete p a b s w c (Reached.made_by o l h n m) = c o (open_within p o h) h (λ k e. complete p a b s w c (n k e)) l m
 
-pub start_sound : (p : Problem) (a : LiteralSet) → OfStart p a → Sound p a
+pub start_sound : (p : Problem) (a : LiteralSet) → StartLiterals p a → Sound p a
 start_sound p a s l h = let k = s.only l h in Reached.at_start l k.0 k.1
 
 -- a sound set that holds the start and that a round leaves as it is
-pub reach_done : (p : Problem) (a b c : LiteralSet) → OfStart p a → Within a b → Sound p b → Round p (steps p) b c → Within c b → ReachSet p b
+pub reach_done : (p : Problem) (a b c : LiteralSet) → StartLiterals p a → Within a b → Sound p b → Round p (steps p) b c → Within c b → ReachSet p b
 reach_done p a b c s w h r back = record { sound = h; complete = λ l. complete p a b s w (r.closed back) }
 
 -- ---- the filter
@@ -92,16 +92,6 @@ exact_from p a table r h = record {
   spares = λ o l e n m. r.sound n ((h o l).none e n m);
   spared = λ o l n. (h o l).some (λ k m. r.complete k (n k m));
 }
-
--- one step more in the table
-pub told_more : (p : Problem) (a : LiteralSet) (o : ℕ) (table : List Bool) (s : Step) (flag : Bool) → o < length table
-    → s ≡ step p o → Outside s a flag
-    → ((k : ℕ) → k < o → Outside (step p k) a (slice_index_or table k false))
-    → (k : ℕ) → k < o + 1 → Outside (step p k) a (slice_index_or (slice_set table o flag) k false)
-told_more p a o table s flag room is here below =
-    below_more (λ k. Outside (step p k) a (slice_index_or (slice_set table o flag) k false)) o
-    (λ k h. let ne : k ≢ o = omega arith in subst (Outside (step p k) a) (sym (get_or-set_other table o k flag false ne)) (below k h))
-    (subst (Outside (step p o) a) (sym (get_or-set_same table o flag false room)) (subst (λ (x : Step). Outside x a flag) is here))
 
 -- an exact table makes the filter
 pub filters_from : (p : Problem) (table : List Bool) → Exact p table → Filters p (closing p table)

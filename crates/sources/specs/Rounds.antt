@@ -1,10 +1,10 @@
 -- How the reach set is found: from the start's literals, in rounds through the steps, until a round brings nothing. Assumes nothing.
 use Rattle.std.specs.Prelude.{◌≡◌, ℕ, ◌<◌, ◌≤◌, Bool, true, false, ◌⊎◌}
-use Rattle.sets.specs.Literals.{Literal, fact}
+use Rattle.sets.specs.Literals.{Literal}
 use Rattle.sets.specs.Sets.{lit_in, weight}
 use Rattle.sets.specs.declared.facts.LiteralSet.{LiteralSet}
 use Rattle.model.specs.declared.step.Step.{Step}
-use Rattle.model.specs.Problems.{Problem, step, start_state, Open, Holds, ◌∈◌}
+use Rattle.model.specs.Problems.{Problem, step, Open, ◌∈◌}
 use Rattle.sources.specs.Reach.{Reached}
 
 -- every literal of the first set is in the second
@@ -15,11 +15,6 @@ Within a b = (l : Literal) → l ∈ a → l ∈ b
 pub record Outside (s : Step) (a : LiteralSet) (flag : Bool) : Type 0 where
   pub none : flag ≡ false → Within s.needs a
   pub some : Within s.needs a → flag ≡ false
-
--- the literals that are true at the start, of the problem's facts
-pub record OfStart (p : Problem) (a : LiteralSet) : Type 0 where
-  pub only : (l : Literal) → l ∈ a → (fact l < p.facts) × Holds (start_state p) l
-  pub all : (l : Literal) → fact l < p.facts → Holds (start_state p) l → l ∈ a
 
 -- b is a, with the makes of the step where it is open and a has its needs; it weighs more where it has more
 pub record Widened (a : LiteralSet) (s : Step) (b : LiteralSet) : Type 0 where

@@ -1,10 +1,10 @@
 -- Rows that are told by their numbers: how many there are, and which one is read.
-use Rattle.std.specs.Prelude.{◌≡◌, ℕ, zero, suc, ◌<◌, ◌≤◌, Bool, false, cond, List, length, nat_lt, slice_index_or, refl}
-use Rattle.std.proofs.Common.{sym, ap, ◌∙◌, ⊎_elim, arith}
+use Rattle.std.specs.Prelude.{◌≡◌, ℕ, zero, suc, ◌+◌, ◌<◌, ◌≤◌, Bool, false, cond, List, length, nat_lt, slice_index_or, refl}
+use Rattle.std.proofs.Common.{sym, ap, subst, ◌∙◌, ⊎_elim, arith, add-one}
 use Rattle.std.proofs.lemmas.List.{get_or_past}
 use Rattle.std.proofs.lemmas.Bool.{cases_lt, lt-ltb, le-ltb, cond-true, cond-false}
 use Rattle.model.specs.Problems.{Problem, steps, step, closed_step}
-use Rattle.sources.specs.Listed.{tabulate}
+use Rattle.sources.specs.Listed.{tabulate, Gathers}
 use Rattle.sources.specs.Reach.{closing, closed_where}
 
 pub length_tabulate : {A : Type 0} (n : ℕ) (row : ℕ → A) → length (tabulate n row) ≡ n
@@ -38,3 +38,12 @@ closing_step p table o =
 
 pub closing_steps : (p : Problem) (table : List Bool) → steps (closing p table) ≡ steps p
 closing_steps p table = length_tabulate (steps p) (λ o. closed_where (slice_index_or table o false) (step p o))
+
+-- what holds of the first, and of each number's sum where it held of the one before, holds of the last
+pub gathered : {A : Type 0} (P : ℕ → A → Type 0) (add : ℕ → A → A → Type 0) (n : ℕ) (a b : A) → P 0 a
+    → ((j : ℕ) (c d : A) → P j c → add j c d → P (suc j) d) → Gathers add n a b → P n b
+gathered P add zero a b first more e = subst (P 0) (sym e) first
+gathered P add (suc j) a b first more g = more j g.0 b (gathered P add j a g.0 first more g.1) g.2
+
+pub gathers_more : {A : Type 0} (add : ℕ → A → A → Type 0) (n : ℕ) (a c b : A) → Gathers add n a c → add n c b → Gathers add (n + 1) a b
+gathers_more add n a c b g s = rw add-one (c, g, s)

@@ -5,6 +5,8 @@ use Rattle.model.specs.declared.step.Step.{Step}
 use Rattle.model.specs.Problems.{Problem, closed_step}
 use Rattle.sources.specs.declared.water.MetersFault.{MetersFault}
 use Rattle.sources.specs.declared.water.MetersFault.TheVariants.{NotOneToEight}
+use Rattle.sources.specs.declared.water.MeterFact.{MeterFact}
+use Rattle.sources.specs.declared.water.MeterFact.TheVariants.{Old, Gap, New, Noted, Sealed, Radio, Paired}
 use Rattle.sources.specs.Listed.{facts_of, literals_of, tabulate}
 
 -- the number of a refusal
@@ -15,6 +17,16 @@ number_of NotOneToEight = 31
 
 abbrev pub line_open : ℕ
 line_open = 0
+
+-- the place of a fact among the meter's seven
+abbrev pub place_of : MeterFact → ℕ
+place_of Old = 0
+place_of Gap = 1
+place_of New = 2
+place_of Noted = 3
+place_of Sealed = 4
+place_of Radio = 5
+place_of Paired = 6
 
 -- by its place among the meter's seven
 abbrev pub fact_of_meter : ℕ → ℕ → ℕ

@@ -13,6 +13,8 @@ use sets::facts::{FactSet, LiteralSet};
 pub struct ReachFilter<S: ProblemSource> {
     below: S,
     closed: [bool; 256],
+    // true of just the steps with a need out of reach
+    ghost exact: { ∥ Exact (S.meaning below) closed ∥₁ },
 }
 
 impl<S: ProblemSource> ReachFilter<S> {

@@ -2,6 +2,7 @@
 ghost use Rattle.sources.specs.Built.{forward};
 ghost use Rattle.sources.specs.Bijections.{forward_undo};
 
+use crate::limits::{has_cell, has_place};
 use model::cell::Cell;
 use model::ranking::Ranking;
 
@@ -14,7 +15,7 @@ impl Ranking for Forward {
     ghost undo = { λ _. forward_undo };
 
     fn cell(&self, times: usize, steps: usize, place: usize) -> Cell {
-        if times > 32 || steps > 256 || place >= times * steps {
+        if !has_place(times, steps, place) {
             return Cell { time: 0, step: 0 };
         }
         Cell {
@@ -24,7 +25,7 @@ impl Ranking for Forward {
     }
 
     fn place(&self, times: usize, steps: usize, cell: Cell) -> usize {
-        if times > 32 || steps > 256 || cell.time as usize >= times || cell.step as usize >= steps {
+        if !has_cell(times, steps, cell) {
             return 0;
         }
         cell.time as usize * steps + cell.step as usize

@@ -4,5 +4,6 @@
 pub mod by_step;
 pub mod filter;
 pub mod forward;
+mod limits;
 mod reach;
 pub mod water;

@@ -1,12 +1,13 @@
 // The reach set of a source's problem, and the steps that it leaves out of reach.
 ghost use Rattle.std.specs.Prelude.{◌≡◌};
 ghost use Rattle.sources.specs.Reach.{Exact};
-ghost use Rattle.sources.specs.Rounds.{Outside, OfStart, Widened, Round, ReachSet};
+ghost use Rattle.sources.specs.Rounds.{Outside, Widened, Round, ReachSet};
 ghost use Rattle.model.specs.Problems.{steps};
 
 use model::source::ProblemSource;
 use model::step::Step;
-use sets::facts::{FactSet, LiteralSet};
+use sets::facts::LiteralSet;
+use std::array;
 
 // Whether a need of the step is outside the set.
 fn lacks(step: Step, reach: LiteralSet) -> bool
@@ -26,14 +27,6 @@ fn widen(reach: LiteralSet, step: Step) -> LiteralSet
     }
 }
 
-// The literals that are true at the start.
-fn start_literals<S: ProblemSource>(source: &S) -> LiteralSet
-    ensures { OfStart (S.meaning source.now) result }
-{
-    let truths = source.start();
-    LiteralSet::new(truths, FactSet::below(source.facts()).minus(truths))
-}
-
 // Once through the steps.
 fn round<S: ProblemSource>(source: &S, reach: LiteralSet) -> LiteralSet
     ensures { Round (S.meaning source.now) (steps (S.meaning source.now)) reach result }
@@ -49,7 +42,7 @@ fn round<S: ProblemSource>(source: &S, reach: LiteralSet) -> LiteralSet
 fn reach_set<S: ProblemSource>(source: &S) -> LiteralSet
     ensures { ReachSet (S.meaning source.now) result }
 {
-    let mut reach = start_literals(source);
+    let mut reach = source.start_literals();
     loop {
         let wide = round(source, reach);
         if wide.subset(reach) {
@@ -64,9 +57,5 @@ pub(crate) fn closed_steps<S: ProblemSource>(source: &S) -> [bool; 256]
     ensures { Exact (S.meaning source.now) result }
 {
     let reach = reach_set(source);
-    let mut closed = [false; 256];
-    for o in 0..source.steps() {
-        closed[o] = lacks(source.step(o), reach);
-    }
-    closed
+    array::from_fn(|o| lacks(source.step(o), reach))
 }

@@ -3,8 +3,8 @@ ghost use Rattle.std.specs.Prelude.{◌≡◌, ◌+◌, ◌*◌, ◌<◌, ◌≤
 ghost use Rattle.sets.specs.Literals.{pos, neg};
 ghost use Rattle.sets.specs.Sets.{with_literal, no_literals};
 ghost use Rattle.model.specs.Problems.{closed_step};
-ghost use Rattle.sources.specs.Listed.{facts_of, literals_of};
-ghost use Rattle.sources.specs.Water.{number_of, fact_of_meter, no_gaps, at_first, wanted, meter_steps, water_step, water_line};
+ghost use Rattle.sources.specs.Listed.{facts_of, literals_of, Gathers};
+ghost use Rattle.sources.specs.Water.{number_of, place_of, fact_of_meter, no_gaps, at_first, wanted, meter_steps, water_step, water_line};
 ghost use Rattle.sources.specs.Waters.{water_well};
 
 use model::source::ProblemSource;
@@ -50,12 +50,59 @@ impl WaterLine {
 
 const OPEN: usize = 0;
 
-// The fact of meter j at a place among its seven.
-fn meter_fact(j: usize, place: usize) -> usize
-    requires { (j < 8) × (place < 7) }
-    ensures { (result ≡ fact_of_meter j place) × (result < 57) }
-{
-    1 + 7 * j + place
+// What may hold of a meter, in the order of its seven facts.
+#[derive(Clone, Copy)]
+enum MeterFact {
+    Old,
+    Gap,
+    New,
+    Noted,
+    Sealed,
+    Radio,
+    Paired,
+}
+
+// A meter, by its number on the line.
+#[derive(Clone, Copy)]
+struct Meter {
+    number: usize,
+    ghost few: { number < 8 },
+}
+
+impl Meter {
+    fn fact(self, what: MeterFact) -> usize
+        ensures value { result ≡ fact_of_meter self.number (place_of what) }
+        ensures within { result < 57 }
+    {
+        1 + 7 * self.number + what as usize
+    }
+
+    // Its step at a place among its seven.
+    fn step(self, place: usize) -> Step
+        ensures { result ≡ slice_index_or (meter_steps self.number) place closed_step }
+    {
+        let none = Literals::none();
+        let old = self.fact(MeterFact::Old);
+        let gap = self.fact(MeterFact::Gap);
+        let new = self.fact(MeterFact::New);
+        let noted = self.fact(MeterFact::Noted);
+        let sealed = self.fact(MeterFact::Sealed);
+        let radio = self.fact(MeterFact::Radio);
+        let paired = self.fact(MeterFact::Paired);
+        match place {
+            0 => open_step(none.is(old), none.is(noted)),
+            1 => open_step(none.is(noted).is(sealed), none.is_not(sealed)),
+            2 => open_step(
+                none.is_not(OPEN).is_not(sealed).is(old),
+                none.is(gap).is_not(old),
+            ),
+            3 => open_step(none.is_not(OPEN).is(gap), none.is(new).is_not(gap)),
+            4 => open_step(none.is(new), none.is(radio)),
+            5 => open_step(none.is(OPEN).is(radio), none.is(paired)),
+            6 => open_step(none.is(OPEN).is(new), none.is(sealed)),
+            _ => Step::closed(),
+        }
+    }
 }
 
 // Literals of the line, collected one by one.
@@ -102,80 +149,59 @@ fn open_step(needs: Literals, makes: Literals) -> Step
     }
 }
 
-fn without_gaps(k: usize) -> Literals
-    requires { k ≤ 8 }
-    ensures { result.set ≡ literals_of (no_gaps k) }
-{
-    let mut all = Literals::none();
-    for j in 0..k {
-        all = all.is_not(meter_fact(j, 1));
+impl WaterLine {
+    // What adding each meter in turn makes of `none`.
+    fn gather<A, F: Fn(A, Meter) -> A>(self, none: A, add: F) -> A
+        requires { F.IsAlwaysCallable add }
+        ensures { Gathers (λ j a b. (m : _) × (m.number ≡ j) × F.post add a m b) self.meters none result }
+    {
+        let mut all = none;
+        for number in 0..self.meters {
+            all = add(all, Meter { number });
+        }
+        all
     }
-    all
-}
 
-fn paired_and_sealed(k: usize) -> Literals
-    requires { k ≤ 8 }
-    ensures { result.set ≡ literals_of (wanted k) }
-{
-    let mut all = Literals::none();
-    for j in 0..k {
-        all = all.is(meter_fact(j, 4)).is(meter_fact(j, 6));
+    fn without_gaps(self) -> Literals
+        ensures { result.set ≡ literals_of (no_gaps self.meters) }
+    {
+        self.gather(Literals::none(), |all, meter| {
+            all.is_not(meter.fact(MeterFact::Gap))
+        })
     }
-    all
-}
 
-fn old_and_sealed(k: usize) -> FactSet
-    requires { k ≤ 8 }
-    ensures { result ≡ facts_of (at_first k) }
-{
-    let mut all = FactSet::empty();
-    for j in 0..k {
-        all = all.insert(meter_fact(j, 4)).insert(meter_fact(j, 0));
+    fn paired_and_sealed(self) -> Literals
+        ensures { result.set ≡ literals_of (wanted self.meters) }
+    {
+        self.gather(Literals::none(), |all, meter| {
+            all.is(meter.fact(MeterFact::Sealed))
+                .is(meter.fact(MeterFact::Paired))
+        })
     }
-    all
-}
 
-// The step of meter j at a place among its seven.
-fn meter_step(j: usize, place: usize) -> Step
-    requires { j < 8 }
-    ensures { result ≡ slice_index_or (meter_steps j) place closed_step }
-{
-    let none = Literals::none();
-    let old = meter_fact(j, 0);
-    let gap = meter_fact(j, 1);
-    let new = meter_fact(j, 2);
-    let noted = meter_fact(j, 3);
-    let sealed = meter_fact(j, 4);
-    let radio = meter_fact(j, 5);
-    let paired = meter_fact(j, 6);
-    match place {
-        0 => open_step(none.is(old), none.is(noted)),
-        1 => open_step(none.is(noted).is(sealed), none.is_not(sealed)),
-        2 => open_step(
-            none.is_not(OPEN).is_not(sealed).is(old),
-            none.is(gap).is_not(old),
-        ),
-        3 => open_step(none.is_not(OPEN).is(gap), none.is(new).is_not(gap)),
-        4 => open_step(none.is(new), none.is(radio)),
-        5 => open_step(none.is(OPEN).is(radio), none.is(paired)),
-        6 => open_step(none.is(OPEN).is(new), none.is(sealed)),
-        _ => Step::closed(),
+    fn old_and_sealed(self) -> FactSet
+        ensures { result ≡ facts_of (at_first self.meters) }
+    {
+        self.gather(FactSet::empty(), |all, meter| {
+            all.insert(meter.fact(MeterFact::Sealed))
+                .insert(meter.fact(MeterFact::Old))
+        })
     }
-}
 
-// The step of a number, on a line of k meters.
-fn line_step(k: usize, number: usize) -> Step
-    requires few { k ≤ 8 }
-    requires within { number < 2 + 7 * k }
-    ensures { result ≡ water_step k number }
-{
-    let none = Literals::none();
-    if number == 0 {
-        open_step(none.is(OPEN), none.is_not(OPEN))
-    } else if number == 1 {
-        open_step(without_gaps(k).is_not(OPEN), none.is(OPEN))
-    } else {
-        meter_step((number - 2) / 7, (number - 2) % 7)
+    // The step of a number that the line has.
+    fn row(self, number: usize) -> Step
+        requires { number < 2 + 7 * self.meters }
+        ensures { result ≡ water_step self.meters number }
+    {
+        let none = Literals::none();
+        match number {
+            0 => open_step(none.is(OPEN), none.is_not(OPEN)),
+            1 => open_step(self.without_gaps().is_not(OPEN), none.is(OPEN)),
+            _ => Meter {
+                number: (number - 2) / 7,
+            }
+            .step((number - 2) % 7),
+        }
     }
 }
 
@@ -193,18 +219,18 @@ impl ProblemSource for WaterLine {
     }
 
     fn step(&self, number: usize) -> Step {
-        if number < 2 + 7 * self.meters {
-            line_step(self.meters, number)
+        if number < self.steps() {
+            self.row(number)
         } else {
             Step::closed()
         }
     }
 
     fn start(&self) -> FactSet {
-        old_and_sealed(self.meters).insert(OPEN)
+        self.old_and_sealed().insert(OPEN)
     }
 
     fn goal(&self) -> LiteralSet {
-        paired_and_sealed(self.meters).is(OPEN).set
+        self.paired_and_sealed().is(OPEN).set
     }
 }

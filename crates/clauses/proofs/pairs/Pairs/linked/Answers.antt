@@ -22,7 +22,5 @@ loop-a-preserved c =
       omega (arith, e.1),
     )
 
-pub returns : goal.returns
-returns c =
-    let inv = c.loop-a.invariant in
-    record { some = inv.0; all = λ k l m h. inv.1 k (walk_end c.args.set c.loop-a.from c.in_default.ensures k m) m l h }
+pub returns-clause-all : goal.returns-clause-all
+returns-clause-all c k l m h = c.loop-a.invariant.1 k (walk_end c.args.set c.loop-a.from c.in_default.ensures k m) m l h

@@ -10,13 +10,13 @@ pub returns : goal.returns
 unfolding rel load
 returns c =
     let m = c.args.self.now in
-    let a = c.args.a in
+    let a = c.args.a.number in
     let s = c.remove.result in
     let e = c.remove.ensures in
     let inside : a < length m.rows = omega arith in
     let sums = sum_by-set weight m.rows a s no_literals inside in
     record {
-      pairs = struck_row m.rows a c.args.b s inside e.members;
+      pairs = struck_row m.rows a c.args.b.number s inside e.members;
       less = omega (arith, sums, e.less);
-      falls = λ h. omega (arith, sums, e.falls (row_of m a (lit c.args.b) ∙ h));
+      falls = λ h. omega (arith, sums, e.falls (row_of m a (lit c.args.b.number) ∙ h));
     }

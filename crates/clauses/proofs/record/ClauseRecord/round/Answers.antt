@@ -1,21 +1,14 @@
-use Rattle.std.proofs.Common.{true, refl, ◌∙◌}
-use Rattle.std.proofs.lemmas.Bool.{both_ways}
+use Rattle.std.proofs.Common.{refl}
 use Rattle.model.specs.Held.{problem_of}
 use Rattle.clauses.proofs.Waits.{ready_round, falls_round}
 use Rattle.clauses.proofs.record.ClauseRecord.round.Goals as goal
 
-pub returns : goal.returns
-returns c =
+pub returns-clause-ready : goal.returns-clause-ready
+returns-clause-ready c =
     let table = c.args.problem.now in
-    let p = problem_of table in
-    let r = c.args.self.now in
-    let s = c.gather-touched.new.self in
-    let g = c.gather-touched.ensures in
-    let t = c.sweep.new.self in
-    let e = c.sweep.ensures in
-    record {
-      facts = e.moved.facts ∙ g.facts;
-      ready = ready_round p r s _ t c.gather-touched.result table.few_facts table.needs_in g refl e.moved e.here;
-      falls = λ _. falls_round p r _ t g.pairs g.none refl c.if-idle.ensures e.moved;
-      ends = λ q. absurd (both_ways true q refl);
-    }
+    ready_round (problem_of table) c.args.self.now _ c.sweep.new.self c.gather-touched.result table.few_facts table.needs_in
+    c.gather-touched.ensures refl c.sweep.ensures.moved c.sweep.ensures.here
+
+pub returns-clause-falls : goal.returns-clause-falls
+returns-clause-falls c _ =
+    falls_round (problem_of c.args.problem.now) c.args.self.now _ c.sweep.new.self refl c.gather-touched.ensures.none c.if-idle.ensures c.sweep.ensures.moved

@@ -14,7 +14,7 @@ loop-b-preserved c =
     let e = c.in-Some.ensures in
     let s = c.loop-b.self in
     let t = c.strike.new.self in
-    let a = c.args.a in
+    let a = c.args.a.number in
     let b = c.in-Some.b in
     let gone = c.args.gone in
     let k = c.strike.ensures in (
@@ -24,7 +24,5 @@ loop-b-preserved c =
       omega (arith, e.1),
     )
 
-pub returns : goal.returns
-returns c =
-    let inv = c.loop-b.invariant in
-    record { struck = inv.0; done = λ x m. inv.1 x (walk_end c.args.gone c.loop-b.from c.in_default.ensures x m) m }
+pub returns-clause-done : goal.returns-clause-done
+returns-clause-done c x m = c.loop-b.invariant.1 x (walk_end c.args.gone c.loop-b.from c.in_default.ensures x m) m

@@ -6,8 +6,8 @@ use Rattle.clauses.proofs.record.ClauseRecord.strike_all.Given as goal
 
 abbrev pub invariant-loop-b : goal.invariant-loop-b
 invariant-loop-b l =
-    Struck l.initial.self l.self (λ k x. (code k ≡ l.a) × (lit_in l.gone x ≡ true))
-    × ((x : Literal) → code x < l.from → lit_in l.gone x ≡ true → kept_in l.self (lit l.a) x ≡ false)
+    Struck l.initial.self l.self (λ k x. (code k ≡ l.a.number) × (lit_in l.gone x ≡ true))
+    × ((x : Literal) → code x < l.from → lit_in l.gone x ≡ true → kept_in l.self (lit l.a.number) x ≡ false)
     × (l.from ≤ 128)
 
 abbrev pub decreases-loop-b : goal.decreases-loop-b

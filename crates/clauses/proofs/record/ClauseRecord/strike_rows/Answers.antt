@@ -25,7 +25,5 @@ loop-a-preserved c =
       omega (arith, e.1),
     )
 
-pub returns : goal.returns
-returns c =
-    let inv = c.loop-a.invariant in
-    record { struck = inv.0; done = λ k m. inv.1 k (walk_end c.args.undone c.loop-a.from c.in_default.ensures k m) m }
+pub returns-clause-done : goal.returns-clause-done
+returns-clause-done c k m = c.loop-a.invariant.1 k (walk_end c.args.undone c.loop-a.from c.in_default.ensures k m) m

@@ -14,9 +14,9 @@ loop-o-preserved c =
     let inv = c.loop-o.invariant in
     let e = c.visit.ensures in (
       moved_more p r s t inv.0 e.moved,
-      below_step (λ o. Visited p r t o (Due p o c.args.touched c.args.all)) c.loop-o.o (λ o l. visited_more p r s t o (Due p o c.args.touched c.args.all) e.moved (inv.1 o l))
-          (visited_here p r s t c.loop-o.o (Due p c.loop-o.o c.args.touched c.args.all) inv.0 e.moved e.here),
+      below_step (λ o. Visited p r t o (Due p o c.args.touched)) c.loop-o.o (λ o l. visited_more p r s t o (Due p o c.args.touched) e.moved (inv.1 o l))
+          (visited_here p r s t c.loop-o.o (Due p c.loop-o.o c.args.touched) inv.0 e.moved e.here),
     )
 
-pub returns : goal.returns
-returns c = let inv = c.loop-o.invariant in record { moved = inv.0; here = λ o l. inv.1 o (omega (arith, c.steps-o-end.ensures)) }
+pub returns-clause-here : goal.returns-clause-here
+returns-clause-here c o l = c.loop-o.invariant.1 o (omega (arith, c.steps-o-end.ensures))

@@ -2,8 +2,8 @@ use Rattle.model.specs.Held.{problem_of}
 use Rattle.clauses.proofs.Waits.{moved_after, here_after}
 use Rattle.clauses.proofs.record.ClauseRecord.visit.Goals as goal
 
-pub returns : goal.returns
-returns c =
+pub returns-then-concerns : goal.returns-then-concerns
+returns-then-concerns c =
     let p = problem_of c.args.problem.now in
     let o = c.args.o in
     let r = c.args.self.now in
