@@ -7,10 +7,8 @@ use Rattle.model.specs.declared.path.Entry.{Entry}
 use Rattle.model.specs.declared.path.Side.{Side}
 use Rattle.model.specs.declared.table.ProblemTable.{ProblemTable}
 use Rattle.model.specs.Problems.{steps}
-use Rattle.model.specs.Plans.{Cells}
 use Rattle.model.specs.Held.{problem_of}
 use Rattle.model.specs.Choices.{Fair}
-use Rattle.model.specs.Firsts.{First, NoneAgrees}
 use Rattle.model.specs.Kept.{Only}
 use Rattle.model.proofs.Crowding.{few}
 use Rattle.marks.specs.declared.tables.Marks.{Marks}
@@ -26,7 +24,7 @@ use Rattle.search.specs.Sound.{Sound}
 use Rattle.search.specs.Looks.{asked, cells, Wanted, path_of, KeptFor, Opens, Choosable, Fits}
 use Rattle.search.proofs.Sounding.{last_fair}
 use Rattle.search.proofs.Stepping.{path_suc}
-use Rattle.search.proofs.Shown.{shown_kept, shown_contradiction, shown_next, shown_whole, shown_first, shown_long, shown_placed, shown_beyond, shown_trail, shown_lower, shown_undo, shown_choose}
+use Rattle.search.proofs.Shown.{shown_kept, shown_next, shown_whole, shown_long, shown_placed, shown_beyond, shown_trail, shown_lower, shown_undo, shown_choose}
 
 -- what a search keeps true, of other marks and levels
 abbrev SoundAt : Search → Marks → List Level → ℕ → Type 0
@@ -45,9 +43,6 @@ module _ (s : Search) where
   pub kept_now : KeptFor (asked s) (path_of s)
   kept_now = shown_kept s.sound
 
-  pub contradiction_now : s.marks.conflict ≡ true → NoneAgrees (Wanted (asked s)) (path_of s)
-  contradiction_now = shown_contradiction s.sound
-
   pub choosable_now : s.marks.conflict ≡ false → (from k : ℕ) → Lower s.marks s.order from → Opens s.marks s.order (cells (asked s)) from (Some k) → Choosable s k
   choosable_now calm from k low o =
       let all : Lower s.marks s.order k = lower_more s.marks s.order from k low o.3 in
@@ -60,16 +55,7 @@ module _ (s : Search) where
 
   pub whole_now : s.marks.conflict ≡ false → (from : ℕ) → Lower s.marks s.order from → Opens s.marks s.order (cells (asked s)) from None
       → Only (Wanted (asked s)) s.length (steps (problem_of s.problem)) (path_of s) (taken_by s.marks (problem_of s.problem) s.length)
-  whole_now calm from low o =
-      shown_whole s.sound calm
-      (lower_more s.marks s.order from (cells (asked s)) low o)
-
-  pub first_now : (plan : Cells) → Only (Wanted (asked s)) s.length (steps (problem_of s.problem)) (path_of s) plan
-      → First (Wanted (asked s)) s.length (steps (problem_of s.problem)) (cell_at s.order) plan
-  first_now = shown_first s.sound
-
-  long_now : s.marks.length ≡ s.length
-  long_now = shown_long s.sound
+  whole_now calm from low o = shown_whole s.sound calm (lower_more s.marks s.order from (cells (asked s)) low o)
 
   pub path_size : length (path_of s) ≡ s.path.depth
   path_size = length-map (take s.path.depth s.path.levels) (entry_of s.order) ∙ length-take-le s.path.depth s.path.levels (omega (arith, s.path.deep, s.path.sized))
@@ -84,7 +70,7 @@ module _ (s : Search) where
     fits_room = depth_room (record { cell = cell_at s.order place; side = side }) f.kept.fair
 
     pub fits_time : (cell_at s.order place).time < s.marks.length
-    fits_time = rw long_now
+    fits_time = rw (shown_long s.sound)
         (last_fair s.length (steps (problem_of s.problem)) (pins_of s.pins) (path_of s) (record { cell = cell_at s.order place; side = side }) f.kept.fair).0
 
     pub chosen : (m' : Marks) (ls' : List Level) (n' : ℕ) → ls' ≡ set s.path.levels s.path.depth (record { place = place; side = side; trail = s.marks.len }) → n' ≡ s.path.depth + 1
@@ -124,7 +110,5 @@ module _ (s : Search) where
         let one : s.path.depth ≡ suc (s.path.depth - 1) = omega (arith, some) in
         rw (e, d, top) (ap (path_at s.order s.path.levels) one ∙ path_suc s.order s.path.levels (s.path.depth - 1) (omega (arith, some, deep)))
 
-  -- a level of the path
-  module _ (i : ℕ) (l : Level) (h : i < s.path.depth) (at : l ≡ get_or s.path.levels i no_level) where
-    pub place_small : l.place < 8192
-    place_small = rw at (omega (arith, room, shown_placed s.sound i h))
+  pub place_small : (i : ℕ) (l : Level) → i < s.path.depth → l ≡ get_or s.path.levels i no_level → l.place < 8192
+  place_small i l h e = rw e (omega (arith, room, shown_placed s.sound i h))

@@ -1,4 +1,4 @@
-use Rattle.std.proofs.Common.{◌≡◌, ℕ, ◌<◌, ◌≤◌, true, List, Some, None, Option, rules, subst, MatchOption}
+use Rattle.std.proofs.Common.{◌≡◌, ℕ, ◌<◌, ◌≤◌, true, List, Some, None, Option, rules, MatchOption}
 use Rattle.std.proofs.lemmas.Iterator.{first_from_Range}
 use Rattle.model.specs.declared.cell.Cell.{Cell}
 use Rattle.marks.specs.declared.tables.Marks.{Marks}
@@ -16,7 +16,6 @@ opens m order C from (Some k) h = h
 pub returns : goal.returns
 returns c =
     let s = c.args.self.now in
-    subst (λ (C : ℕ). Opens s.marks s.order C c.args.from c.find.result) c.cell_count-count.ensures.value
-    (opens s.marks s.order c.cell_count-count.result c.args.from c.find.result
+    rw (← c.cell_count-count.ensures.value) (opens s.marks s.order _ _ c.find.result
     (first_from_Range _ _ _ _ (λ k. Undecided s.marks (cell_at s.order k)) (λ k. told s.marks (cell_at s.order k) ≡ true) c.find.ensures.ran
     (λ x q r. search rules) (λ x q r. search rules)))
