@@ -1,12 +1,9 @@
 -- One member more or less in one set of a table, and one entry more or less on a stack.
-use Rattle.std.proofs.Common.{◌≡◌, ℕ, ◌+◌, ◌-◌, ◌<◌, ◌≤◌, min, Bool, true, false, cond, not, ◌&&◌, ◌||◌, eqb, ltb, List, [], ◌∷◌, ◌++◌, length, get_or, take, set, sym, refl, ap, ◌∙◌, subst, ap₂, ⊎_elim, arith, length-take-le, get_or-set_other, get_or-take, get_or-set_same}
+use Rattle.std.proofs.Common.{◌≡◌, ℕ, ◌+◌, ◌-◌, ◌<◌, ◌≤◌, min, Bool, true, cond, not, ◌&&◌, ◌||◌, eqb, ltb, List, [], ◌∷◌, ◌++◌, length, get_or, take, set, sym, ap, ◌∙◌, subst, ap₂, ⊎_elim, arith, length-take-le, get_or-set_other, get_or-take, get_or-set_same}
 use lib.Seq.{get_or_at}
+use Rattle.std.proofs.Math.Bool.{and-true}
 use Rattle.std.proofs.lemmas.Bool.{cases_eq, ne_eqb, lt-ltb, cond-true}
 use Rattle.std.proofs.lemmas.Bool.Decides.{nat_tests}
-
-pub and_true : (b : Bool) → (b && true) ≡ b
-and_true true = refl
-and_true false = refl
 
 module _ {A : Type 0} (mem : A → ℕ → Bool) (d : A) (xs : List A) (t i : ℕ) (s : A) (within : t < length xs) where
   module _ (h : (k : ℕ) → mem s k ≡ (mem (get_or xs t d) k || eqb k i)) where
@@ -28,17 +25,9 @@ module _ {A : Type 0} (mem : A → ℕ → Bool) (d : A) (xs : List A) (t i : �
     struck u k = ⊎_elim
         (λ (e : t ≡ u). subst (λ (v : ℕ). mem (get_or (set xs t s) v d) k ≡ (mem (get_or xs v d) k && not (eqb t v && eqb i k))) e (struck_at k))
         (λ e. ap (λ (z : A). mem z k) (get_or-set_other xs t u s d (λ q. e (sym q)))
-        ∙ sym (and_true (mem (get_or xs u d) k))
+        ∙ sym (and-true (mem (get_or xs u d) k))
         ∙ ap (λ (b : Bool). mem (get_or xs u d) k && not (b && eqb i k)) (sym (ne_eqb t u e)))
         (cases_eq t u)
-
--- what holds of each set before place t holds also at t, where x is put there
-pub one_more_set : {A : Type 0} (P : ℕ → A → Type 0) (d : A) (xs : List A) (t : ℕ) (x : A) → t < length xs → ((i : ℕ) → i < t → P i (get_or xs i d)) → P t x
-    → (i : ℕ) → i < t + 1 → P i (get_or (set xs t x) i d)
-one_more_set P d xs t x room before here i h = ⊎_elim
-    (λ (e : t ≡ i). subst (λ (k : ℕ). P k (get_or (set xs t x) k d)) e (subst (P t) (sym (get_or-set_same xs t x d room)) here))
-    (λ e. subst (P i) (sym (get_or-set_other xs t i x d (λ q. e (sym q)))) (before i (omega arith)))
-    (cases_eq t i)
 
 -- the stack ys of length a over the table xs of which n entries are in use
 module _ {A : Type 0} (xs ys : List A) (n a : ℕ) (fits : n ≤ length xs) (same : ys ≡ xs) (from : a ≡ min n (length xs)) where

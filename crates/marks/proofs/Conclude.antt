@@ -1,6 +1,6 @@
 -- What follows from the makers that are not left out. Assumes nothing.
-use Rattle.std.proofs.Common.{◌≡◌, ℕ, ◌+◌, Bool, true, false, not, ◌&&◌, ◌⊎◌, get_or, sym, refl, ◌∙◌, inl, inr, ⊎_elim}
-use Rattle.std.proofs.lemmas.Bool.{cases_Bool, cases_eq, and_parts, and_from, and_cases, both_ways, not-true, not-false, not_from_false}
+use Rattle.std.proofs.Common.{◌≡◌, ℕ, ◌+◌, true, false, not, ◌&&◌, ◌⊎◌, get_or, sym, refl, ◌∙◌, inl, inr, ⊎_elim}
+use Rattle.std.proofs.lemmas.Bool.{false_from_ne_true, cases_Bool, cases_eq, and_parts, and_from, and_cases, both_ways, not-true, not-false, not_from_false}
 use Rattle.sets.specs.Sets.{step_in, OnlyStep, no_steps}
 use Rattle.sets.specs.declared.steps.StepSet.{StepSet}
 use Rattle.marks.specs.declared.mark.Mark.{Mark}
@@ -12,13 +12,10 @@ use Rattle.marks.specs.Grows.{on}
 use Rattle.marks.specs.Rules.{Maker, On, NoMaker, NoMakerBut, Concluded}
 use Rattle.marks.specs.Rules.{Concluded.stays_false, Concluded.was_true, Concluded.only_maker}
 
-unless : (b : Bool) → (b ≡ true → ⊥) → b ≡ false
-unless b h = ⊎_elim (λ e. absurd (h e)) (λ e. e) (cases_Bool b)
-
 module _ (ix : Index) (m : Marks) (t l : ℕ) (rest : StepSet)
     (is : (i : ℕ) → step_in rest i ≡ (step_in (get_or ix.makers l no_steps) i && not (step_in (get_or m.marked.cells.left t no_steps) i))) where
   in_rest : (o : ℕ) → Maker ix l o → (On m (LeftOut t o) → ⊥) → step_in rest o ≡ true
-  in_rest o k h = is o ∙ and_from _ _ k (not_from_false _ (unless _ h))
+  in_rest o k h = is o ∙ and_from _ _ k (not_from_false _ (false_from_ne_true _ h))
 
   of_rest : (o : ℕ) → step_in rest o ≡ true → Maker ix l o × (On m (LeftOut t o) → ⊥)
   of_rest o h = let a = and_parts (step_in (get_or ix.makers l no_steps) o) (not (step_in (get_or m.marked.cells.left t no_steps) o)) (sym (is o) ∙ h) in

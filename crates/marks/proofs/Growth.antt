@@ -37,10 +37,6 @@ put_added a x b p = record {
   why = λ h. inl (sym p.same_conflict ∙ h);
 }
 
--- nothing was to be put in
-pub added_nothing : {S : Mark → Type 0} (a : Marks) → ((y : Mark) → S y → ⊥) → Added a S a
-added_nothing a none = record { grows = grows_refl a; same_head = refl; there = λ y h. absurd (none y h); new = λ y h. inl h; why = λ h. inl h }
-
 -- first the one set, then the other
 pub added_then : {S R Q : Mark → Type 0} {a b c : Marks} → Added a S b → Added b R c → ((y : Mark) → Q y → S y ⊎ R y) → ((y : Mark) → S y → Q y) → ((y : Mark) → R y → Q y) → Added a Q c
 added_then f g split left right = record {
@@ -59,16 +55,6 @@ added_as f back forth = record {
   grows = f.grows;
   same_head = f.same_head;
   there = λ y q. f.there y (back y q);
-  new = λ y h. ⊎_elim (λ e. inl e) (λ s. inr (forth y s)) (f.new y h);
-  why = λ h. ⊎_elim (λ e. inl e) (λ e. inr (e.0, forth e.0 e.1, e.2)) (f.why h);
-}
-
--- part of the set was on already
-pub added_rest : {S Q : Mark → Type 0} {a b : Marks} → Added a S b → ((y : Mark) → Q y → (on a y ≡ true) ⊎ S y) → ((y : Mark) → S y → Q y) → Added a Q b
-added_rest f back forth = record {
-  grows = f.grows;
-  same_head = f.same_head;
-  there = λ y q. ⊎_elim (λ h. inr (f.grows.keeps y h)) (λ s. f.there y s) (back y q);
   new = λ y h. ⊎_elim (λ e. inl e) (λ s. inr (forth y s)) (f.new y h);
   why = λ h. ⊎_elim (λ e. inl e) (λ e. inr (e.0, forth e.0 e.1, e.2)) (f.why h);
 }

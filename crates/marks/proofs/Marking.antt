@@ -1,6 +1,5 @@
 -- One mark more or less in the tables: each bit of the marks is now `op` of whether it is that mark and of what it was.
-use Rattle.std.proofs.Common.{◌≡◌, ℕ, ◌≤◌, Bool, true, false, ◌&&◌, eqb, List, Option, Some, None, MatchOption, get_or, sym, subst, arith}
-use Rattle.std.proofs.lemmas.Bool.{and_parts, and_from, leb-true, le-leb, ltb-true, lt-ltb}
+use Rattle.std.proofs.Common.{◌≡◌, ℕ, Bool, false, ◌&&◌, eqb, List, get_or, sym, subst}
 use Rattle.sets.specs.Sets.{no_literals}
 use Rattle.sets.specs.declared.facts.LiteralSet.{LiteralSet}
 use Rattle.model.specs.declared.cell.Cell.{Cell}
@@ -9,12 +8,10 @@ use Rattle.model.specs.declared.path.Side.TheVariants as side
 use Rattle.marks.specs.declared.cells.CellSides.{CellSides}
 use Rattle.marks.specs.declared.mark.Mark.{Mark}
 use Rattle.marks.specs.declared.mark.Mark.TheVariants.{Fact, Taken, LeftOut}
-use Rattle.marks.specs.declared.tables.Marks.{Marks}
-use Rattle.marks.specs.Cells.{side_in, said, same_side, Unsaid}
+use Rattle.marks.specs.Cells.{side_in, same_side}
 use Rattle.marks.specs.Pinning.{same_cell}
-use Rattle.marks.specs.Tables.{number_in, on_in, same, ranged}
-use Rattle.marks.specs.Grows.{on}
-use Rattle.marks.specs.Deciding.{mark_of, Undecided}
+use Rattle.marks.specs.Tables.{number_in, on_in, same}
+use Rattle.marks.specs.Deciding.{mark_of}
 
 module _ (op : Bool → Bool → Bool) (idle : (b : Bool) → op false b ≡ b) where
   pub fact_changed : (facts facts' : List LiteralSet) (cells : CellSides) (x : Mark) (t i : ℕ) → x ≡ Fact t i
@@ -42,19 +39,3 @@ module _ (op : Bool → Bool → Bool) (idle : (b : Bool) → op false b ≡ b) 
       go side.LeftOut h (Fact u j) = sym (idle _)
       go side.LeftOut h (Taken u j) = h side.Taken u j
       go side.LeftOut h (LeftOut u j) = h side.LeftOut u j
-
--- a mark of a length is one of the tables
-pub ranged_more : (T : ℕ) (x : Mark) → T ≤ 32 → ranged T x ≡ true → ranged 32 x ≡ true
-ranged_more T (Fact t l) h r = let a = and_parts _ _ r in let b = leb-true t T a.0 in and_from _ _ (le-leb _ _ (omega arith)) a.1
-ranged_more T (Taken t o) h r = let a = and_parts _ _ r in let b = ltb-true t T a.0 in and_from _ _ (lt-ltb _ _ (omega arith)) a.1
-ranged_more T (LeftOut t o) h r = let a = and_parts _ _ r in let b = ltb-true t T a.0 in and_from _ _ (lt-ltb _ _ (omega arith)) a.1
-
--- the side of a cell is its mark
-pub said_on : (m : Marks) (s : Side) (c : Cell) → said m.marked.cells s c ≡ true → on m (mark_of s c) ≡ true
-said_on m side.Taken c h = h
-said_on m side.LeftOut c h = h
-
-pub decided_by : (m : Marks) (c : Cell) (r : Option Side) → MatchOption r (Unsaid m.marked.cells c) (λ s. said m.marked.cells s c ≡ true)
-    → MatchOption r (Undecided m c) (λ s. on m (mark_of s c) ≡ true)
-decided_by m c None h = record { not_taken = h.not_taken; not_left = h.not_left }
-decided_by m c (Some s) h = said_on m s c h

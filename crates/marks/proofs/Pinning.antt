@@ -1,13 +1,11 @@
 -- What pins say, by the tables.
-use Rattle.std.proofs.Common.{◌≡◌, Bool, true, false, cond, Option, Some, None, MatchOption, sym, refl, ap, ◌∙◌, ap₂}
+use Rattle.std.proofs.Common.{◌≡◌, Bool, true, false, cond, sym, refl, ◌∙◌, ap₂}
 use Rattle.std.proofs.lemmas.Bool.{both_ways}
-use Rattle.model.specs.declared.cell.Cell.{Cell}
 use Rattle.model.specs.declared.path.Side.{Side}
 use Rattle.model.specs.declared.path.Side.TheVariants as side
 use Rattle.model.specs.Plans.{Pin, unpinned, take, leave}
-use Rattle.marks.specs.declared.pins.Pins.{Pins}
-use Rattle.marks.specs.Cells.{said, same_side, Unsaid}
-use Rattle.marks.specs.Pinning.{pins_of, pin_of, says_take, says_leave}
+use Rattle.marks.specs.Cells.{same_side}
+use Rattle.marks.specs.Pinning.{pin_of, says_take, says_leave}
 
 pub take_said : (p : Pin) → says_take p ≡ true → p ≡ take
 take_said unpinned h = absurd (both_ways false refl h)
@@ -48,14 +46,3 @@ one_side side.LeftOut h k = both_ways false refl h
 pub pin_told : (s : Side) → cond (same_side s side.Taken) take (cond (same_side s side.LeftOut) leave unpinned) ≡ pin_of s
 pin_told side.Taken = refl
 pin_told side.LeftOut = refl
-
--- the side of a cell is what it is pinned to
-pub pinned_to : (pins : Pins) (c : Cell) (r : Option Side) → MatchOption r (Unsaid pins.cells c) (λ s. said pins.cells s c ≡ true)
-    → MatchOption r (pins_of pins c.time c.step ≡ unpinned) (λ s. pins_of pins c.time c.step ≡ pin_of s)
-pinned_to pins c None h = ap₂ (λ (a b : Bool). cond a take (cond b leave unpinned)) h.not_taken h.not_left
-pinned_to pins c (Some side.Taken) h = ap (λ (a : Bool). cond a take (cond (said pins.cells side.LeftOut c) leave unpinned)) h
-pinned_to pins c (Some side.LeftOut) h = ap₂ (λ (a b : Bool). cond a take (cond b leave unpinned)) (not_true _ (λ k. pins.apart c.time c.step k h)) h
-  where
-    not_true : (b : Bool) → (b ≡ true → ⊥) → b ≡ false
-    not_true true k = absurd (k refl)
-    not_true false k = refl

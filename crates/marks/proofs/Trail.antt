@@ -1,47 +1,46 @@
 -- The trail: what one more mark does to it, and that it fits its table. Assumes nothing.
-use Rattle.std.proofs.Common.{◌≡◌, ℕ, zero, suc, ◌+◌, ◌-◌, ◌*◌, ◌/◌, ◌%◌, ◌<◌, ◌≤◌, Bool, true, false, cond, not, ◌&&◌, ◌||◌, eqb, ◌≢◌, ◌⊎◌, List, length, set, sym, refl, ap, ◌∙◌, subst, ap₂, inl, inr, ⊎_elim, suc-le-suc, zero-le, add-one, arith, get_or-set_other, get_or-set_same}
-use Rattle.std.proofs.lemmas.Bool.{both_ways, cases_Bool, cases_eq, cases_order, and_parts, and_from, or_cases, or_left, or_right, eqb-true, eq-eqb, ne_eqb, lt-ltb, ltb-true, leb-true, cond-true, cond-false}
+use Rattle.std.proofs.Common.{◌≡◌, ℕ, zero, suc, ◌+◌, ◌-◌, ◌*◌, ◌/◌, ◌%◌, ◌<◌, ◌≤◌, Bool, true, false, cond, not, ◌&&◌, ◌||◌, eqb, ◌≢◌, ◌⊎◌, List, [], ◌∷◌, length, set, sym, refl, ap, ◌∙◌, subst, ap₂, inl, inr, ⊎_elim, add-one, arith, get_or-set_other, get_or-set_same}
+use Rattle.std.proofs.lemmas.Bool.{both_ways, cases_Bool, cases_eq, cases_order, and_parts, and_from, or_cases, or_left, or_right, eqb-true, eq-eqb, ne_eqb, ltb-true, leb-true, cond-true, cond-false}
+use Rattle.std.specs.List.{AllByRecursion, IsDistinct, list_any}
+use Rattle.std.proofs.lemmas.Map.Steps.{length-le_from_distinct_below}
 use Rattle.sets.specs.Literals.{Literal, lit, code, opposite}
 use Rattle.sets.proofs.Literals.{lit_even, lit_odd, code_lit}
 use Rattle.marks.specs.declared.mark.Mark.{Mark}
 use Rattle.marks.specs.declared.mark.Mark.TheVariants.{Fact, Taken, LeftOut}
-use Rattle.marks.proofs.Changes.{and_true}
+use Rattle.std.proofs.Math.Bool.{and-true}
 use Rattle.marks.specs.Tables.{opp, opp_lit, same, ranged, mark_at, in_trail, slot, AllRanged, Apart}
 
 -- ---- different numbers below N are at most N
 
-module _ (N m : ℕ) (s : ℕ → ℕ) (below : (i : ℕ) → i < suc m → s i < suc N) (apart : (i j : ℕ) → i < j → j < suc m → s i ≡ s j → ⊥) where
-  moved : ℕ → ℕ
-  moved j = cond (eqb (s j) N) (s m) (s j)
+-- the numbers before place n, the last one first
+front : (ℕ → ℕ) → ℕ → List ℕ
+front s zero = []
+front s (suc n) = s n ∷ front s n
 
-  moved_at : (j : ℕ) → s j ≡ N → moved j ≡ s m
-  unfolding moved
-  moved_at j e = cond-true (eqb (s j) N) (s m) (s j) (eq-eqb (s j) N e)
+module _ (N : ℕ) (s : ℕ → ℕ) where
+  front-length : (n : ℕ) → length (front s n) ≡ n
+  unfolding front
+  front-length zero = refl
+  front-length (suc n) = ap suc (front-length n)
 
-  moved_off : (j : ℕ) → (s j ≡ N → ⊥) → moved j ≡ s j
-  unfolding moved
-  moved_off j e = ⊎_elim (λ t. absurd (e (eqb-true (s j) N t))) (λ f. cond-false (eqb (s j) N) (s m) (s j) f) (cases_Bool (eqb (s j) N))
+  front-below : (n : ℕ) → ((i : ℕ) → i < n → s i < N) → (q : ℕ) → list_any (eqb q) (front s n) ≡ true → q < N
+  unfolding front
+  front-below zero b q h = absurd (both_ways false refl h)
+  front-below (suc n) b q h = ⊎_elim (λ e. subst (λ (k : ℕ). k < N) (sym (eqb-true q (s n) e)) (b n (omega arith)))
+      (λ e. front-below n (λ i k. b i (omega arith)) q e) (or_cases (eqb q (s n)) (list_any (eqb q) (front s n)) h)
 
-  moved_below : (j : ℕ) → j < m → moved j < N
-  moved_below j h = ⊎_elim
-      (λ e. let k : s m ≢ N = λ q. apart j m h (omega arith) (e ∙ sym q) in omega (arith, moved_at j e, below m (omega arith)))
-      (λ e. omega (arith, moved_off j e, below j (omega arith)))
-      (cases_eq (s j) N)
+  front-misses : (n q : ℕ) → ((i : ℕ) → i < n → s i ≡ q → ⊥) → AllByRecursion (λ y. eqb q y ≡ false) (front s n)
+  unfolding front
+  front-misses zero q a = tt
+  front-misses (suc n) q a = (ne_eqb q (s n) (λ e. a n (omega arith) (sym e)), front-misses n q (λ i k. a i (omega arith)))
 
-  moved_apart : (i j : ℕ) → i < j → j < m → moved i ≡ moved j → ⊥
-  moved_apart i j h k q = ⊎_elim
-      (λ e. ⊎_elim
-      (λ f. apart i j h (omega arith) (e ∙ sym f))
-      (λ f. apart j m k (omega arith) (sym (moved_off j f) ∙ sym q ∙ moved_at i e)) (cases_eq (s j) N))
-      (λ e. ⊎_elim
-      (λ f. apart i m (omega arith) (omega arith) (sym (moved_off i e) ∙ q ∙ moved_at j f))
-      (λ f. apart i j h (omega arith) (sym (moved_off i e) ∙ q ∙ moved_off j f)) (cases_eq (s j) N))
-      (cases_eq (s i) N)
+  front-distinct : (n : ℕ) → ((i j : ℕ) → i < j → j < n → s i ≡ s j → ⊥) → IsDistinct eqb (front s n)
+  unfolding front IsDistinct
+  front-distinct zero a = tt
+  front-distinct (suc n) a = (front-misses n (s n) (λ i k. a i n k (omega arith)), front-distinct n (λ i j h k. a i j h (omega arith)))
 
-pub pigeon : (N n : ℕ) (s : ℕ → ℕ) → ((i : ℕ) → i < n → s i < N) → ((i j : ℕ) → i < j → j < n → s i ≡ s j → ⊥) → n ≤ N
-pigeon N zero s b a = zero-le
-pigeon zero (suc m) s b a = absurd (let k = b 0 (omega arith) in omega arith)
-pigeon (suc N) (suc m) s b a = suc-le-suc (pigeon N m (moved N m s b a) (moved_below N m s b a) (moved_apart N m s b a))
+  pub pigeon : (n : ℕ) → ((i : ℕ) → i < n → s i < N) → ((i j : ℕ) → i < j → j < n → s i ≡ s j → ⊥) → n ≤ N
+  pigeon n b a = subst (λ (k : ℕ). k ≤ N) (front-length n) (length-le_from_distinct_below (front s n) N (front-distinct n a) (front-below n b))
 
 -- ---- the same mark
 
@@ -91,16 +90,6 @@ opp_lit_byte l h = ⊎_elim (λ e. omega arith) (λ e. omega arith) (opp_either 
 
 pub opp_lit_small : (l : ℕ) → l < 128 → opp_lit l < 128
 opp_lit_small l h = ⊎_elim (λ e. omega arith) (λ e. omega arith) (opp_either l)
-
-pub opp_ranged : (T : ℕ) (x : Mark) → ranged T x ≡ true → ranged T (opp x) ≡ true
-opp_ranged T (Fact t l) h = let a = and_parts _ _ h in and_from _ _ a.0 (lt-ltb _ _ (opp_lit_small l (ltb-true l 128 a.1)))
-opp_ranged T (Taken t l) h = h
-opp_ranged T (LeftOut t l) h = h
-
-pub opp_opp : (x : Mark) → opp (opp x) ≡ x
-opp_opp (Fact t l) = ap (λ (k : ℕ). Fact t k) (opp_lit_opp l)
-opp_opp (Taken t o) = refl
-opp_opp (LeftOut t o) = refl
 
 -- ---- membership in the trail
 
@@ -190,7 +179,7 @@ module _ (T : ℕ) (r : List Mark) (n : ℕ) (x : Mark) (short : T ≤ 32) (ok :
 
   -- there is room for it
   pub has_room : n < 10304
-  has_room = pigeon 10304 (suc n) slots
+  has_room = pigeon 10304 slots (suc n)
       (λ i h. ⊎_elim (λ (e : i ≡ n). subst (λ (k : ℕ). slots k < 10304) (sym e) (subst (λ (k : ℕ). k < 10304) (sym slots_at) (slot_small T x short okx)))
       (λ e. subst (λ (k : ℕ). k < 10304) (sym (slots_below i (omega arith))) (slot_small T (mark_at r i) short (ok i (omega arith)))) (cases_eq i n))
       (λ i j h k e. ⊎_elim
@@ -224,16 +213,10 @@ slot_opp (Fact t l) = ⊎_elim (λ e. omega arith) (λ e. omega arith) (opp_eith
 slot_opp (Taken t o) = refl
 slot_opp (LeftOut t o) = refl
 
-fact_number : Mark → ℕ
-fact_number (Fact t l) = l
-fact_number (Taken t o) = 0
-fact_number (LeftOut t o) = 1
-
 opp_differs : (x : Mark) → opp x ≡ x → ⊥
-unfolding fact_number
-opp_differs (Fact t l) e = let k = ap fact_number e in ⊎_elim (λ q. omega arith) (λ q. omega arith) (opp_either l)
-opp_differs (Taken t o) e = let k = ap fact_number e in omega arith
-opp_differs (LeftOut t o) e = let k = ap fact_number e in omega arith
+opp_differs (Fact t l) e = let k : opp_lit l ≡ l = cc in ⊎_elim (λ q. omega arith) (λ q. omega arith) (opp_either l)
+opp_differs (Taken t o) e = cc
+opp_differs (LeftOut t o) e = cc
 
 pub never_both_in : (r : List Mark) (n : ℕ) → Apart r n → (x : Mark) → in_trail r n x ≡ true → in_trail r n (opp x) ≡ true → ⊥
 never_both_in r n apart x h k =
@@ -256,4 +239,4 @@ in_trail_pop r n k e apart x = ap (λ (m : ℕ). in_trail r m x && not (same (ma
 
     go : (s : Bool) → same (mark_at r k) x ≡ s → ((s || in_trail r k x) && not s) ≡ in_trail r k x
     go true q = ⊎_elim (λ h. absurd (gone q h)) (λ h. sym h) (cases_Bool (in_trail r k x))
-    go false q = and_true (in_trail r k x)
+    go false q = and-true (in_trail r k x)

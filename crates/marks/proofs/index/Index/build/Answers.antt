@@ -8,9 +8,6 @@ use Rattle.marks.specs.Tables.{number_in}
 use Rattle.marks.proofs.Made.{filled, needs_are, makes_are, needers_are, rival_interferes, interferes_rival, clauses_are}
 use Rattle.marks.proofs.index.Index.build.Goals as goal
 
-pub invariant_of-self : goal.invariant_of-self
-invariant_of-self c = record { makers_are = c.transpose-2.ensures }
-
 pub returns : goal.returns
 returns c =
     let t = c.args.problem.now in let p = problem_of t in

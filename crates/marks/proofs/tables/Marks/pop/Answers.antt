@@ -6,7 +6,6 @@ use Rattle.marks.specs.declared.tables.Marks.{Marks}
 use Rattle.marks.specs.Tables.{marked_in, same, in_trail, mark_at, ranged, Listed, AllRanged, Apart}
 use Rattle.marks.specs.Grows.{on}
 use Rattle.marks.proofs.Trail.{in_trail_pop}
-use Rattle.marks.proofs.Marking.{ranged_more}
 use Rattle.marks.proofs.Changes.{top_is}
 use Rattle.marks.proofs.tables.Marks.pop.Goals as goal
 
@@ -26,15 +25,6 @@ module _ (m : Marks) (x : Mark) (some : m.head < m.len) (top : x ≡ mark_at m.t
 
   ok-top : ranged m.length x ≡ true
   ok-top = ap (ranged m.length) top ∙ m.ranged (m.len - 1) (omega arith)
-
-pub strike-requires : goal.strike-requires
-strike-requires c =
-    let m = c.args.self.now in let x = c.in-Some.x in
-    let r = c.pop-top.new.self.table.now in let n = c.len-self.result in let s = c.resume-trail.ensures in let p = c.pop-top.ensures in
-    let top = top_is m.trail c.resume-trail.result.table.now m.len c.resume-trail.result.len (omega (arith, m.room, m.sized)) s.table s.len
-    r c.pop-top.new.self.len x (Fact 0 0) (omega (arith, c.requires.some)) p.table p.len c.in-Some.ensures.held in
-    let er = p.table ∙ s.table in let en : n ≡ m.len - 1 = omega (arith, c.len-self.ensures, p.len, s.len, m.room, m.sized) in
-    ranged_more m.length x m.short (ok-top m x c.requires.some top r n er en)
 
 pub invariant_of-self-2 : goal.invariant_of-self-2
 invariant_of-self-2 c =

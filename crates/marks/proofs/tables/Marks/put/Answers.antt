@@ -5,7 +5,6 @@ use Rattle.marks.specs.declared.tables.Marks.{Marks}
 use Rattle.marks.specs.Tables.{marked_in, same, opp, in_trail, mark_at, ranged, AllRanged, Apart, Listed}
 use Rattle.marks.specs.Grows.{on}
 use Rattle.marks.proofs.Trail.{has_room, ranged_push, apart_push, in_trail_push, set_off}
-use Rattle.marks.proofs.Marking.{ranged_more}
 use Rattle.marks.proofs.Changes.{pushed}
 use Rattle.marks.proofs.tables.Marks.put.Goals as goal
 
@@ -35,9 +34,6 @@ module _ (m : Marks) (x : Mark) (okx : ranged m.length x ≡ true) (free : on m 
 
     kept_on : (i : ℕ) → i < m.len → mark_at r i ≡ mark_at m.trail i
     kept_on i h = ap (λ (q : List Mark). mark_at q i) er ∙ set_off m.trail m.len x i (λ e. omega arith)
-
-pub enter-requires : goal.enter-requires
-enter-requires c = ranged_more c.args.self.now.length c.args.x c.args.self.now.short c.requires.ranged
 
 pub invariant_of-self : goal.invariant_of-self
 invariant_of-self c =
