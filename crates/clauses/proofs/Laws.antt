@@ -1,7 +1,8 @@
 -- The laws of a table of pairs.
-use Rattle.std.proofs.Common.{◌≡◌, ℕ, zero, suc, ◌+◌, ◌/◌, ◌%◌, ◌<◌, ◌≤◌, Bool, true, false, cond, not, ◌&&◌, ◌||◌, eqb, ltb, ◌⊎◌, List, [], ◌∷◌, length, get_or, set, replicate, sym, refl, ap, ◌∙◌, subst, ap₂, inl, inr, ⊎_elim, arith, get_or-set_other, get_or-set_same}
-use Rattle.std.proofs.lemmas.Bool.{cases_eq, cases_lt, eq-eqb, ne_eqb, both_ways, or_right, and_from, and_left, lt-ltb, ltb-true, cond-true}
+use Rattle.std.proofs.Common.{◌≡◌, ℕ, zero, suc, ◌+◌, ◌/◌, ◌%◌, ◌<◌, ◌≤◌, Bool, true, false, cond, not, ◌&&◌, ◌||◌, eqb, ltb, ◌⊎◌, List, length, get_or, set, replicate, sym, refl, ap, ◌∙◌, subst, inl, inr, ⊎_elim, arith, get_or-set_other, get_or-set_same}
+use Rattle.std.proofs.lemmas.Bool.{cases_lt, both_ways}
 use Rattle.std.proofs.lemmas.Bool.Decides.{nat_tests}
+use Rattle.std.proofs.lemmas.List.{get_or_past}
 use Rattle.sets.specs.Literals.{Literal, pos, neg, fact, code, lit}
 use Rattle.model.specs.Problems.{Problem, StartLiterals, value, start_state}
 use Rattle.clauses.specs.Striking.{Good}
@@ -21,11 +22,6 @@ unfolding lit_in fact_in
 no_literal_in (pos f) = has_zero f
 no_literal_in (neg f) = has_zero f
 
-past_is_default : (xs : List LiteralSet) (k : ℕ) → length xs ≤ k → get_or xs k no_literals ≡ no_literals
-past_is_default [] k h = refl
-past_is_default (x ∷ xs) zero h = absurd (omega arith)
-past_is_default (x ∷ xs) (suc k) h = past_is_default xs k (omega arith)
-
 beyond_is_none : (n k : ℕ) (x : LiteralSet) → x ≡ no_literals → get_or (replicate n x) k no_literals ≡ no_literals
 beyond_is_none zero k x e = refl
 beyond_is_none (suc n) zero x e = e
@@ -37,41 +33,19 @@ no_pairs n k x e l = ap (λ (s : LiteralSet). lit_in s l) (beyond_is_none n k x 
 
 pub rel_narrow : (m : Pairs) (k l : Literal) → rel m k l ≡ true → code k < 128
 unfolding rel
-rel_narrow m k l h = go (cases_lt (code k) 128)
-  where
-    go : (code k < 128) ⊎ (128 ≤ code k) → code k < 128
-    go (inl lt) = lt
-    go (inr ge) =
-        let e = past_is_default m.rows (code k) (omega (arith, m.sized)) in
-        absurd (both_ways (lit_in (get_or m.rows (code k) no_literals) l) (ap (λ (s : LiteralSet). lit_in s l) e ∙ no_literal_in l) h)
+rel_narrow m k l h = let past = get_or_past m.rows (code k) no_literals in let none = no_literal_in l in grind (arith, m.sized, both_ways)
 
 -- past the end of the table there are no pairs
 pub row_past : (m : Pairs) (a : ℕ) → 128 ≤ a → (l : Literal) → rel m (lit a) l ≡ false
 unfolding rel
 row_past m a h l =
-    let e = past_is_default m.rows (code (lit a)) (omega (arith, m.sized, code_lit a)) in ap (λ (s : LiteralSet). lit_in s l) e ∙ no_literal_in l
+    let e = get_or_past m.rows (code (lit a)) no_literals (omega (arith, m.sized, code_lit a)) in ap (λ (s : LiteralSet). lit_in s l) e ∙ no_literal_in l
 
 -- one literal left out of one row
 pub struck_row : (xs : List LiteralSet) (a b : ℕ) (s : LiteralSet) → a < length xs
     → ((l : Literal) → lit_in s l ≡ (lit_in (get_or xs a no_literals) l && not (eqb (code l) b))) → (k l : Literal)
     → lit_in (get_or (set xs a s) (code k) no_literals) l ≡ (lit_in (get_or xs (code k) no_literals) l && not (eqb (code k) a && eqb (code l) b))
-struck_row xs a b s h f k l = go (cases_eq (code k) a)
-  where
-    go : (code k ≡ a) ⊎ (code k ≡ a → ⊥)
-        → lit_in (get_or (set xs a s) (code k) no_literals) l ≡ (lit_in (get_or xs (code k) no_literals) l && not (eqb (code k) a && eqb (code l) b))
-    go (inl e) =
-        let same : get_or (set xs a s) (code k) no_literals ≡ s = ap (λ (n : ℕ). get_or (set xs a s) n no_literals) e ∙ rw get_or-set_same in
-        ap (λ (t : LiteralSet). lit_in t l) same ∙ f l
-        ∙ ap₂ (λ (x y : Bool). x && not (y && eqb (code l) b)) (ap (λ (n : ℕ). lit_in (get_or xs n no_literals) l) (sym e)) (sym (eq-eqb (code k) a e))
-    go (inr n) =
-        let other : get_or (set xs a s) (code k) no_literals ≡ get_or xs (code k) no_literals = rw get_or-set_other in
-        ap (λ (t : LiteralSet). lit_in t l) other
-        ∙ stays (lit_in (get_or xs (code k) no_literals) l)
-        ∙ ap (λ (y : Bool). lit_in (get_or xs (code k) no_literals) l && not (y && eqb (code l) b)) (sym (ne_eqb (code k) a n))
-      where
-        stays : (x : Bool) → x ≡ (x && true)
-        stays true = refl
-        stays false = refl
+struck_row xs a b s h f k l = grind (arith, nat_tests, get_or-set_same, get_or-set_other, f l)
 
 -- ---- a walk over the literals by their numbers
 
@@ -95,35 +69,17 @@ walk_end s from gap x m = go (cases_lt (code x) from)
 
 -- a set built one literal at a time from those that pass
 pub single_yes : (r v v' : Bool) (c a : ℕ) → v ≡ (r && ltb c a) → v' ≡ (v || eqb c a) → (c ≡ a → r ≡ true) → v' ≡ (r && ltb c (a + 1))
-single_yes r v v' c a e f h = go (cases_eq c a) r v v' e f h
-  where
-    go : (c ≡ a) ⊎ (c ≡ a → ⊥) → (r v v' : Bool) → v ≡ (r && ltb c a) → v' ≡ (v || eqb c a) → (c ≡ a → r ≡ true) → v' ≡ (r && ltb c (a + 1))
-    go (inl q) r v v' e f h = f ∙ or_right v (eqb c a) (eq-eqb c a q) ∙ sym (and_from r (ltb c (a + 1)) (h q) (lt-ltb c (a + 1) (omega arith)))
-    go (inr n) r v v' e f h =
-        let same : ltb c a ≡ ltb c (a + 1) = grind (arith, nat_tests) in
-        f ∙ ap (λ (x : Bool). v || x) (ne_eqb c a n) ∙ or_false v ∙ e ∙ ap (λ (x : Bool). r && x) same
-      where
-        or_false : (x : Bool) → (x || false) ≡ x
-        or_false true = refl
-        or_false false = refl
+single_yes r v v' c a e f h = grind (arith, nat_tests)
 
 pub single_no : (r v : Bool) (c a : ℕ) → v ≡ (r && ltb c a) → (c ≡ a → r ≡ false) → v ≡ (r && ltb c (a + 1))
-single_no r v c a e h = go (cases_eq c a) r v e h
-  where
-    go : (c ≡ a) ⊎ (c ≡ a → ⊥) → (r v : Bool) → v ≡ (r && ltb c a) → (c ≡ a → r ≡ false) → v ≡ (r && ltb c (a + 1))
-    go (inl q) r v e h = e ∙ and_left r (ltb c a) (h q) ∙ sym (and_left r (ltb c (a + 1)) (h q))
-    go (inr n) r v e h = let same : ltb c a ≡ ltb c (a + 1) = grind (arith, nat_tests) in e ∙ ap (λ (x : Bool). r && x) same
+single_no r v c a e h = grind (arith, nat_tests)
 
 -- a pair with itself, at a number
 pub self_at : (m : Pairs) (x : Literal) (a : ℕ) (t : Bool) → t ≡ rel m (lit a) (lit a) → code x ≡ a → rel m x x ≡ t
 self_at m x a t h e = let q : x ≡ lit a = sym (lit_code x) ∙ ap lit e in ap (λ (y : Literal). rel m y y) q ∙ sym h
 
 pub single_all : (m : Pairs) (x : Literal) (a : ℕ) (v : Bool) → 128 ≤ a → v ≡ (rel m x x && ltb (code x) a) → v ≡ rel m x x
-single_all m x a v h e = e ∙ go (rel m x x) refl
-  where
-    go : (r : Bool) → rel m x x ≡ r → (r && ltb (code x) a) ≡ r
-    go true q = lt-ltb (code x) a (omega (arith, rel_narrow m x x q))
-    go false q = refl
+single_all m x a v h e = let n = rel_narrow m x x in grind (arith, nat_tests)
 
 -- ---- the pairs at the start: `all` has the problem's literals, `first` those of them that hold
 
@@ -136,27 +92,10 @@ module _ (p : Problem) (few : p.facts ≤ 64) (all first : LiteralSet)
   -- a pair is in the table where both are the problem's and one holds
   pub paired_is : (k x : Literal) → paired all first k x ≡ true
       → (fact k < p.facts) × (fact x < p.facts) × ((value (start_state p) k ≡ true) ⊎ (value (start_state p) x ≡ true))
-  paired_is k x h = go (lit_in first k) (lit_in all k) refl refl h
-    where
-      go : (f a : Bool) → lit_in first k ≡ f → lit_in all k ≡ a → cond f (lit_in all x) (cond a (lit_in first x) false) ≡ true
-          → (fact k < p.facts) × (fact x < p.facts) × ((value (start_state p) k ≡ true) ⊎ (value (start_state p) x ≡ true))
-      go true a e q h = let u = starts.only k e in (u.0, ltb-true (fact x) p.facts (sym (in_all x) ∙ h), inl u.1)
-      go false true e q h = let u = starts.only x h in (ltb-true (fact k) p.facts (sym (in_all k) ∙ q), u.0, inr u.1)
-      go false false e q h = absurd (both_ways false refl h)
+  paired_is k x h = let ak = in_all k in let ax = in_all x in let sk = starts.only k in let sx = starts.only x in grind (arith, nat_tests)
 
   pub paired_from : (k x : Literal) → fact k < p.facts → fact x < p.facts → (value (start_state p) k ≡ true) ⊎ (value (start_state p) x ≡ true) → paired all first k x ≡ true
-  paired_from k x lk lx s = go (lit_in first k) refl s
-    where
-      all_k : lit_in all k ≡ true
-      all_k = in_all k ∙ lt-ltb (fact k) p.facts lk
-
-      all_x : lit_in all x ≡ true
-      all_x = in_all x ∙ lt-ltb (fact x) p.facts lx
-
-      go : (f : Bool) → lit_in first k ≡ f → (value (start_state p) k ≡ true) ⊎ (value (start_state p) x ≡ true) → cond f (lit_in all x) (cond (lit_in all k) (lit_in first x) false) ≡ true
-      go true e s = all_x
-      go false e (inl h) = absurd (both_ways (lit_in first k) e (starts.all k lk h))
-      go false e (inr h) = cond-true (lit_in all k) (lit_in first x) false all_k ∙ starts.all x lx h
+  paired_from k x lk lx s = let ak = in_all k in let ax = in_all x in let sk = starts.all k lk in let sx = starts.all x lx in grind (arith, nat_tests)
 
   code_narrow : (k : Literal) → fact k < 64 → code k < 128
   unfolding code

@@ -1,6 +1,8 @@
 -- Striking spoilt pairs until none is left gives the largest kept set. Assumes nothing.
-use Rattle.std.proofs.Common.{◌≡◌, ℕ, zero, suc, ◌+◌, ◌<◌, ◌≤◌, true, false, ◌⊎◌, List, [], ◌∷◌, length, get_or, sym, refl, ap, subst, inl, inr, ⊎_elim, arith}
+use Rattle.std.proofs.Common.{◌≡◌, ℕ, ◌<◌, true, false, ◌⊎◌, sym, refl, ap, subst, inl, inr, ⊎_elim, arith}
 use Rattle.std.proofs.lemmas.Bool.{cases_Bool, cases_lt, both_ways}
+use Rattle.std.proofs.lemmas.List.{get_or_past}
+use Rattle.std.proofs.lemmas.Bool.Decides.{nat_tests}
 use Rattle.sets.specs.Literals.{Literal, opposite}
 use Rattle.sets.proofs.Literals.{opposite_opposite}
 use Rattle.model.specs.declared.step.Step.{Step}
@@ -58,11 +60,7 @@ largest p W g s = record {
 -- ---- what was settled stays so until a pair that the step looks at is struck
 
 pub stays_out : (W₀ W : Clauses) (G : Literal → Literal → Type 0) → Cut W₀ W G → (a b : Literal) → W₀ a b ≡ false → W a b ≡ false
-stays_out W₀ W G c a b h = go (cases_Bool (W a b))
-  where
-    go : (W a b ≡ true) ⊎ (W a b ≡ false) → W a b ≡ false
-    go (inl e) = absurd (both_ways (W₀ a b) h (c.within a b e))
-    go (inr e) = e
+stays_out W₀ W G c a b h = let w = c.within a b in grind (arith, nat_tests)
 
 module _ (p : Problem) (o : ℕ) (W₀ W : Clauses) (none : (a b : Literal) → Clause W₀ a b → W a b ≡ false → Looks p o a b → ⊥) where
   need_twice : (a : Literal) → Needs p o a → Needs p o (opposite (opposite a))
@@ -87,20 +85,6 @@ module _ (p : Problem) (o : ℕ) (W₀ W : Clauses) (none : (a b : Literal) → 
 pub settled_within : (p : Problem) (o : ℕ) (W₀ W : Clauses) → Within W W₀ → Settled p W₀ W₀ o → Settled p W₀ W o
 settled_within p o W₀ W sub s r n a b h x = s r n a b (sub a b h) x
 
--- what is true of the steps below n, and of n, is true below n + 1
-pub below_step : (P : ℕ → Type 0) (n : ℕ) → ((o : ℕ) → o < n → P o) → P n → (o : ℕ) → o < n + 1 → P o
-below_step P n f here o lt = go (cases_lt o n)
-  where
-    go : (o < n) ⊎ (n ≤ o) → P o
-    go (inl l) = f o l
-    go (inr l) = let e : n ≡ o = omega arith in subst P e here
-
--- a step beyond the table is closed
-beyond_is_closed : (xs : List Step) (o : ℕ) → length xs ≤ o → get_or xs o closed_step ≡ closed_step
-beyond_is_closed [] o h = refl
-beyond_is_closed (x ∷ xs) zero h = absurd (omega arith)
-beyond_is_closed (x ∷ xs) (suc o) h = beyond_is_closed xs o (omega arith)
-
 pub settled_all : (p : Problem) (W : Clauses) → ((o : ℕ) → o < steps p → Settled p W W o) → (o : ℕ) → Settled p W W o
 settled_all p W f o r = ⊎_elim (λ l. f o l r)
-    (λ l. absurd (both_ways (step p o).enabled (ap (λ (s : Step). s.enabled) (beyond_is_closed p.rows o l)) r)) (cases_lt o (steps p))
+    (λ l. absurd (both_ways (step p o).enabled (ap (λ (s : Step). s.enabled) (get_or_past p.rows o closed_step l)) r)) (cases_lt o (steps p))

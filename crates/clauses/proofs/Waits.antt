@@ -1,6 +1,7 @@
 -- What awaits another look, and why nothing is missed. Assumes nothing.
-use Rattle.std.proofs.Common.{◌≡◌, ℕ, ◌+◌, ◌-◌, ◌*◌, ◌<◌, ◌≤◌, min, Bool, true, false, not, ◌&&◌, ◌||◌, eqb, ltb, ◌⊎◌, List, [], ◌∷◌, ◌++◌, length, take, Some, None, Option, sym, refl, ap, ◌∙◌, subst, ap₂, inl, inr, ⊎_elim, arith, length-append, MatchOption}
-use Rattle.std.proofs.lemmas.Bool.{cases_Bool, cases_eq, both_ways, or_parts, not-false, or_left, or_right, and_from, lt-ltb, eq-eqb}
+use Rattle.std.proofs.Common.{◌≡◌, ℕ, ◌<◌, ◌≤◌, min, Bool, true, false, not, ◌&&◌, ◌||◌, eqb, ltb, ◌⊎◌, List, [], ◌∷◌, ◌++◌, length, take, sym, refl, ap, ◌∙◌, subst, inl, inr, ⊎_elim, arith}
+use Rattle.std.proofs.lemmas.Bool.{cases_Bool, both_ways, or_parts, not-false, or_left}
+use Rattle.std.proofs.lemmas.Bool.Decides.{nat_tests}
 use Rattle.sets.specs.Literals.{Literal, pos, neg, opposite, fact, lit, code}
 use Rattle.sets.specs.Sets.{lit_in}
 use Rattle.sets.specs.declared.facts.LiteralSet.{LiteralSet}
@@ -65,17 +66,7 @@ size_fell r r' h = omega (arith, r'.waiting.fits, one_if_small r'.waiting.all)
 -- whatever awaited is taken up, and something did
 pub size_idle : (r r' : ClauseRecord) → r'.pairs ≡ r.pairs → Idle r'.waiting → (Idle r.waiting → ⊥) → size r' < size r
 unfolding size
-size_idle r r' e idle busy = go r.waiting.all refl
-  where
-    go : (b : Bool) → r.waiting.all ≡ b → load r'.pairs * 8258 + r'.waiting.len + one_if r'.waiting.all < load r.pairs * 8258 + r.waiting.len + one_if r.waiting.all
-    go true q =
-        let w : load r'.pairs ≡ load r.pairs = ap load e in
-        let q' : one_if r'.waiting.all ≡ 0 = ap one_if idle.1 in
-        let u : one_if r.waiting.all ≡ 1 = ap one_if q in omega (arith, idle.0)
-    go false q =
-        let w : load r'.pairs ≡ load r.pairs = ap load e in
-        let q' : one_if r'.waiting.all ≡ 0 = ap one_if idle.1 in
-        let n : r.waiting.len ≡ 0 → ⊥ = λ z. busy (z, q) in omega (arith, idle.0)
+size_idle r r' e idle busy = grind (arith, idle.0, idle.1)
 
 -- ---- notes
 
@@ -168,9 +159,6 @@ module _ (p : Problem) (o : ℕ) (r r' : ClauseRecord) (e : Struck r r' (Spoilt 
 
 -- ---- moves
 
-pub moved_none : (p : Problem) (r : ClauseRecord) → Moved p r r
-moved_none p r = record { facts = refl; good = λ g. g; noted = noted_none r.waiting; carried = λ o q n s. s; less = omega arith }
-
 pub moved_more : (p : Problem) (r s t : ClauseRecord) → Moved p r s → Moved p s t → Moved p r t
 moved_more p r s t m n = record {
   facts = n.facts ∙ m.facts;
@@ -201,8 +189,7 @@ caught_more s t a b touched more w grows ha hb n x y (inl h) = ⊎_elim inl
 -- a literal's opposite put in by its number
 pub insert_has : (s s' : LiteralSet) (n a : ℕ) → ((l : Literal) → lit_in s' l ≡ (lit_in s l || (ltb n 128 && eqb (code l) n)))
     → n < 128 → lit n ≡ opposite (lit a) → lit_in s' (opposite (lit a)) ≡ true
-insert_has s s' n a is small e = is (opposite (lit a)) ∙ or_right (lit_in s (opposite (lit a))) _
-    (and_from _ _ (lt-ltb n 128 small) (eq-eqb (code (opposite (lit a))) n (ap code (sym e) ∙ code_lit n)))
+insert_has s s' n a is small e = let q = is (opposite (lit a)) in let w : code (opposite (lit a)) ≡ n = ap code (sym e) ∙ code_lit n in grind (arith, nat_tests)
 
 pub insert_keeps : (s s' : LiteralSet) (n : ℕ) → ((l : Literal) → lit_in s' l ≡ (lit_in s l || (ltb n 128 && eqb (code l) n)))
     → (l : Literal) → lit_in s l ≡ true → lit_in s' l ≡ true
@@ -249,21 +236,6 @@ falls_round p r u t e idle busy m = omega (arith, size_idle r u e idle busy, m.l
 -- no more await than the table holds
 pub resumes : (r : Waiting) → min r.len (length r.pairs) ≡ r.len
 resumes r = omega (arith, r.fits, r.sized)
-
-never_empty : (ys : List (ℕ × ℕ)) (x : ℕ × ℕ) → [] ≡ ys ++ x ∷ [] → ⊥
-never_empty ys x e = omega (arith, simp length-append at (ap length e))
-
-pub top_of : (t : Option (ℕ × ℕ)) (n n₀ n' k : ℕ) (xs xs₀ xs' : List (ℕ × ℕ)) → n₀ ≡ n → xs₀ ≡ xs → n' ≡ n₀ - 1 → k ≡ n'
-    → MatchOption t (n₀ ≡ 0) (λ x. take n₀ xs₀ ≡ take n' xs' ++ x ∷ [])
-    → MatchOption t ((n ≡ 0) × (k ≡ 0)) (λ x. (take n xs ≡ take k xs' ++ x ∷ []) × (k + 1 ≡ n))
-top_of None n n₀ n' k xs xs₀ xs' en ex em ek h = (sym en ∙ h, omega arith)
-top_of (Some x) n n₀ n' k xs xs₀ xs' en ex em ek h =
-    let w : take n xs ≡ take k xs' ++ x ∷ [] = ap₂ take (sym en) (sym ex) ∙ h ∙ ap (λ (m : ℕ). take m xs' ++ x ∷ []) (sym ek) in
-    (w, go (cases_eq n 0) w)
-  where
-    go : (n ≡ 0) ⊎ (n ≡ 0 → ⊥) → take n xs ≡ take k xs' ++ x ∷ [] → k + 1 ≡ n
-    go (inl z) w = absurd (never_empty (take k xs') x (ap (λ (m : ℕ). take m xs) (sym z) ∙ w))
-    go (inr z) w = omega arith
 
 -- one pair put on the stack, or all steps await
 pub noted_push : (w w' : Waiting) (a b : ℕ) (ok : Bool) → (ok ≡ true → waiting w' ≡ waiting w ++ (a, b) ∷ []) → (ok ≡ false → waiting w' ≡ waiting w)

@@ -3,6 +3,7 @@ use Rattle.std.specs.Prelude.{◌≡◌, ℕ, ◌+◌, ◌<◌, ◌≤◌, Bool,
 use Rattle.std.proofs.Common.{sym, ap, subst, ◌∙◌, ⊎_elim, arith, below_more}
 use Rattle.std.proofs.lemmas.List.{get_or_past, ext_get_or}
 use Rattle.std.proofs.lemmas.Bool.{and_parts, and_from, cases_Bool, cases_lt, true≢false, not-true}
+use Rattle.std.proofs.lemmas.Bool.Decides.{nat_tests}
 use Rattle.sets.specs.Literals.{Literal, code}
 use Rattle.sets.specs.Sets.{lit_in}
 use Rattle.sets.specs.declared.facts.LiteralSet.{LiteralSet}
@@ -18,12 +19,7 @@ abbrev Subset : LiteralSet → LiteralSet → Bool → Type 0
 Subset a b r = MatchBool r ((l : Literal) → (lit_in a l && not (lit_in b l)) ≡ false) ((l : Literal) × (code l < 128) × (lit_in a l ≡ true) × (lit_in b l ≡ false))
 
 pub subset_yes : (a b : LiteralSet) (r : Bool) → Subset a b r → r ≡ true → Within a b
-subset_yes a b true s e l h = both (lit_in a l) (lit_in b l) (s l) h
-  where
-    both : (x y : Bool) → (x && not y) ≡ false → x ≡ true → y ≡ true
-    both true true n t = refl
-    both true false n t = absurd (true≢false n)
-    both false y n t = absurd (true≢false (sym t))
+subset_yes a b true s e l h = let outside = s l in grind (arith, nat_tests)
 subset_yes a b false s e l h = absurd (true≢false (sym e))
 
 pub subset_no : (a b : LiteralSet) (r : Bool) → Subset a b r → r ≡ false → (l : Literal) × (l ∈ a) × (lit_in b l ≡ false)
@@ -125,9 +121,7 @@ closing_well p table w = record {
 }
 
 iff_same : (x y : Bool) → (x ≡ true → y ≡ true) → (y ≡ true → x ≡ true) → x ≡ y
-iff_same true y f g = sym (f refl)
-iff_same false true f g = g refl
-iff_same false false f g = refl
+iff_same x y f g = grind (arith, nat_tests)
 
 -- a problem has one filter
 pub filters_same : (p q r : Problem) → Filters p q → Filters p r → q ≡ r

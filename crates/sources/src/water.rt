@@ -105,7 +105,7 @@ impl Meter {
     }
 }
 
-// Literals of the line, collected one by one.
+// A set of literals told by the facts that are and are not; a LiteralSet is told by the literals' numbers.
 #[derive(Clone, Copy)]
 struct Literals {
     set: LiteralSet,
