@@ -1,11 +1,12 @@
 -- A search as it begins. Assumes nothing.
-use Rattle.std.proofs.Common.{◌≡◌, ℕ, ◌*◌, ◌<◌, ◌≤◌, true, ◌&&◌, ltb, leb, ◌⊎◌, List, get_or, sym, ◌∙◌, subst, inl, inr, ⊎_elim, zero-mul, arith, Option}
+use Rattle.std.proofs.Common.{◌≡◌, ℕ, ◌*◌, ◌<◌, ◌≤◌, true, ◌&&◌, ltb, leb, ◌⊎◌, List, get_or, sym, ◌∙◌, inl, inr, ⊎_elim, zero-mul, arith, Option}
 use mathlib.Core.Logic.{∥∥₁_map, ∥∥₁_elim}
 use native.Mathlib.Bridge.{le_prop}
 use Rattle.sets.specs.Literals.{Literal, lit, code}
 use Rattle.sets.specs.Sets.{lit_in, no_literals}
 use Rattle.sets.specs.declared.facts.LiteralSet.{LiteralSet}
-use Rattle.std.proofs.lemmas.Bool.{cases_Bool, and_parts, and_from, cond-true, cond-false, le-leb}
+use Rattle.std.proofs.lemmas.Bool.Decides.{nat_tests}
+use Rattle.std.proofs.lemmas.Bool.{cases_Bool, and_parts, cond-true, cond-false}
 use Rattle.model.specs.declared.cell.Cell.{Cell}
 use Rattle.model.specs.declared.table.ProblemTable.{ProblemTable}
 use Rattle.model.specs.Problems.{Problem, WellFormed, steps}
@@ -64,17 +65,17 @@ means_kept ix p rows V e w = record {
 }
 
 -- at length 0 there is no cell
-pub ordered_none : (m : ℕ) (order : List Cell) → Ordered 0 m (places_in order)
+ordered_none : (m : ℕ) (order : List Cell) → Ordered 0 m (places_in order)
 ordered_none m order = record {
   place_below = λ c r q. absurd (omega arith);
-  cell_below = λ k h. absurd (let z : 0 * m ≡ 0 = zero-mul m in omega arith);
+  cell_below = λ k h. absurd (omega (arith, zero-mul m));
   cell_of_place = λ c r q. absurd (omega arith);
-  place_of_cell = λ k h. absurd (let z : 0 * m ≡ 0 = zero-mul m in omega arith);
+  place_of_cell = λ k h. absurd (omega (arith, zero-mul m));
 }
 
 pinned_not : (x : Pin) → x ≡ unpinned → (x ≡ take) ⊎ (x ≡ leave) → ⊥
-pinned_not x e (inl h) = let z : ◌≡◌ {A = ℕ} 0 1 = cc in omega arith
-pinned_not x e (inr h) = let z : ◌≡◌ {A = ℕ} 0 1 = cc in omega arith
+pinned_not x e (inl h) = cc
+pinned_not x e (inr h) = cc
 
 pub range_none : (pins : Pins) (T m : ℕ) → ((t o : ℕ) → pins t o ≡ unpinned) → InRange pins T m
 range_none pins T m free t o h = absurd (pinned_not (pins t o) (free t o) h)
@@ -84,37 +85,34 @@ pub range_with : (pins new : Pins) (T m : ℕ) (c : Cell) (pin : Pin) → ((c.ti
     → ((t o : ℕ) → new t o ≡ with_pin pins c pin t o) → InRange new T m
 range_with pins new T m c pin inside r w t o h = ⊎_elim
     (λ b. let e = w t o ∙ cond-true _ _ _ b in ⊎_elim
-    (λ i. let q = at_cell c t o (and_parts (ltb c.time 32) (is_cell c t o) b).1 in (subst (λ (u : ℕ). u < T) q.0 i.0, subst (λ (u : ℕ). u < m) q.1 i.1))
+    (λ i. let q = at_cell c t o (and_parts (ltb c.time 32) (is_cell c t o) b).1 in (omega (arith, q.0, i.0), omega (arith, q.1, i.1)))
     (λ u. absurd (pinned_not (new t o) (e ∙ u) h)) inside)
     (λ b. let e = w t o ∙ cond-false _ _ _ b in r t o (⊎_elim (λ k. inl (sym e ∙ k)) (λ k. inr (sym e ∙ k)) h))
     (cases_Bool (ltb c.time 32 && is_cell c t o))
 
--- the search at the beginning
-pub begins : (t : ProblemTable) (V : Clauses) (ix : Index) (T : ℕ) (order : List Cell) (pins : Pins) (root : Option CellSides) (m : Marks) (ls : List Level)
-    → Largest (problem_of t) V → Means ix (problem_of t) V → Ordered T (steps (problem_of t)) (places_in order) → InRange pins T (steps (problem_of t))
-    → Begun ix pins T m → CellsOf m root → ∥ Sound (problem_of t) V ix T order pins root m ls 0 ∥₁
-begins t V ix T order pins root m ls largest means ordered range b k =
-    ∣ sound_begin (problem_of t) V ix T order pins root m ls (table_well t) largest means ordered range (m, b.the_length, b.rest, k) b.the_length b.rest ∣₁
+-- a search of a problem just taken up
+pub opens : (t : ProblemTable) {V : Clauses} {ix : Index} {order : List Cell} {pins : Pins} {root : Option CellSides} {m : Marks} {ls : List Level} {n : ℕ}
+    → Largest (problem_of t) V → Means ix (problem_of t) V → ((t o : ℕ) → pins t o ≡ unpinned) → Begun ix pins 0 m → CellsOf m root → n ≡ 0
+    → ∥ Sound (problem_of t) V ix 0 order pins root m ls n ∥₁
+opens t {order = order} {pins = pins} largest means free b k none =
+    ∣ sound_begin (table_well t) largest means (ordered_none (steps (problem_of t)) order) (range_none pins 0 (steps (problem_of t)) free) b k none ∣₁
 
 -- what a search keeps of its problem, as it begins anew
 module _ (s : Search) where
-  pub begins_anew : (pins : Pins) (root : Option CellSides) (m : Marks) → InRange pins s.length (steps (problem_of s.problem))
-      → Begun s.index pins s.length m → CellsOf m root
-      → ∥ Sound (problem_of s.problem) (kept_in s.clauses) s.index s.length s.order pins root m s.levels 0 ∥₁
-  begins_anew pins root m range b k = ∥∥₁_map s.sound
-      (λ x. sound_begin (problem_of s.problem) (kept_in s.clauses) s.index s.length s.order pins root m s.levels x.well x.largest x.means x.ordered range
-      (m, b.the_length, b.rest, k) b.the_length b.rest)
+  pub begins_anew : {T : ℕ} {order : List Cell} {pins : Pins} {root : Option CellSides} {m : Marks} {ls : List Level} {n : ℕ} → Ordered T (steps (problem_of s.problem)) (places_in order)
+      → InRange pins T (steps (problem_of s.problem)) → Begun s.index pins T m → CellsOf m root → n ≡ 0
+      → ∥ Sound (problem_of s.problem) (kept_in s.clauses) s.index T order pins root m ls n ∥₁
+  begins_anew ordered range b k none = ∥∥₁_map s.sound (λ x. sound_begin x.well x.largest x.means ordered range b k none)
 
-  pub asks_anew : (T : ℕ) (order : List Cell) (pins : Pins) (root : Option CellSides) (m : Marks) → Ordered T (steps (problem_of s.problem)) (places_in order)
-      → InRange pins T (steps (problem_of s.problem)) → Begun s.index pins T m → CellsOf m root
-      → ∥ Sound (problem_of s.problem) (kept_in s.clauses) s.index T order pins root m s.levels 0 ∥₁
-  asks_anew T order pins root m ordered range b k = ∥∥₁_map s.sound
-      (λ x. sound_begin (problem_of s.problem) (kept_in s.clauses) s.index T order pins root m s.levels x.well x.largest x.means ordered range
-      (m, b.the_length, b.rest, k) b.the_length b.rest)
+  -- with other pins alone
+  pub pins_anew : {pins : Pins} {root : Option CellSides} {m : Marks} {ls : List Level} {n : ℕ} → InRange pins s.length (steps (problem_of s.problem))
+      → Begun s.index pins s.length m → CellsOf m root → n ≡ 0
+      → ∥ Sound (problem_of s.problem) (kept_in s.clauses) s.index s.length s.order pins root m ls n ∥₁
+  pins_anew range b k none = ∥∥₁_map s.sound (λ x. sound_begin x.well x.largest x.means x.ordered range b k none)
 
   pub range_now : InRange (pins_of s.pins) s.length (steps (problem_of s.problem))
   range_now t o h = (∥∥₁_elim s.sound le_prop (λ x. (x.range t o h).0), ∥∥₁_elim s.sound le_prop (λ x. (x.range t o h).1))
 
 -- an order that fits its table
 pub fits_true : (T m n : ℕ) → T ≤ 32 → m ≤ 256 → T * m ≤ n → (ranked T m && leb (T * m) n) ≡ true
-fits_true T m n a b c = and_from _ _ (and_from _ _ (le-leb T 32 a) (le-leb m 256 b)) (le-leb (T * m) n c)
+fits_true T m n a b c = grind (arith, nat_tests)

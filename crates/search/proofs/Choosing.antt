@@ -36,12 +36,12 @@ pinned_other pins (x ∷ path) e t o k = ap (λ (y : Pin). cond (is_cell x.cell 
 
 -- what a side says as a pin
 take_of : (s : Side) (c : Cell) → says_take (pin_of s) ≡ true → Taken c.time c.step ≡ mark_of s c
-take_of side.LeftOut c h = absurd (both_ways false refl h)
+take_of side.LeftOut c h = cc
 take_of side.Taken c h = refl
 
 leave_of : (s : Side) (c : Cell) → says_leave (pin_of s) ≡ true → LeftOut c.time c.step ≡ mark_of s c
 leave_of side.LeftOut c h = refl
-leave_of side.Taken c h = absurd (both_ways false refl h)
+leave_of side.Taken c h = cc
 
 module _ (ix : Index) (T : ℕ) (pins : Pins) (path : List Entry) (c : Cell) (s : Side)
     (inside : c.time < T) (free : with_path pins path c.time c.step ≡ unpinned) where
@@ -53,7 +53,7 @@ module _ (ix : Index) (T : ℕ) (pins : Pins) (path : List Entry) (c : Cell) (s 
 
   old_free : (t o : ℕ) → is_cell c t o ≡ true → with_path pins path t o ≡ unpinned
   old_free t o k = let q = at_cell c t o k in
-      sym (ap (λ (u : ℕ). with_path pins path u o) q.0) ∙ sym (ap (λ (u : ℕ). with_path pins path c.time u) q.1) ∙ free
+      cc (q.0, q.1, free)
 
   here : (t o : ℕ) → is_cell c t o ≡ true → more t o ≡ pin_of s
   unfolding e more
@@ -91,13 +91,13 @@ module _ (ix : Index) (T : ℕ) (pins : Pins) (path : List Entry) (c : Cell) (s 
   only (Fact t l) h = inl h
   only (Taken t o) h = let a = and_parts (ltb t T) (says_take (more t o)) h in ⊎_elim
       (λ k. inl (and_from _ _ a.0 k))
-      (λ k. inr (let q = at_cell c t o k.0 in sym (ap (λ (u : ℕ). Taken u o) q.0) ∙ sym (ap (λ (u : ℕ). Taken c.time u) q.1) ∙ take_of s c k.1))
+      (λ k. inr (let q = at_cell c t o k.0 in cc (q.0, q.1, take_of s c k.1)))
       (whence says_take t o a.1)
   only (LeftOut t o) h = let a = and_parts (ltb t T) (step_in ix.closed o || says_leave (more t o)) h in ⊎_elim
       (λ k. inl (and_from _ _ a.0 (or_left _ _ k)))
       (λ k. ⊎_elim
       (λ j. inl (and_from _ _ a.0 (or_right _ _ j)))
-      (λ j. inr (let q = at_cell c t o j.0 in sym (ap (λ (u : ℕ). LeftOut u o) q.0) ∙ sym (ap (λ (u : ℕ). LeftOut c.time u) q.1) ∙ leave_of s c j.1))
+      (λ j. inr (let q = at_cell c t o j.0 in cc (q.0, q.1, leave_of s c j.1)))
       (whence says_leave t o k))
       (or_cases (step_in ix.closed o) (says_leave (more t o)) a.1)
 

@@ -20,7 +20,7 @@ use Rattle.marks.proofs.Meaning.{exactly_tells}
 use Rattle.clauses.specs.Waiting.{kept_in}
 use Rattle.search.specs.declared.tables.Search.{Search}
 
-module _ (p : Problem) (pins : Pins) (V : Clauses) (m : Marks) (c : Cell) (tells : Tells p pins V m) where
+module _ {p : Problem} {pins : Pins} {V : Clauses} {m : Marks} (c : Cell) (tells : Tells p pins V m) where
   pub told_contradiction : m.conflict ≡ true → CellTold (Forced p m.length pins V) c.time c.step 3
   told_contradiction e = record {
     small = omega arith;

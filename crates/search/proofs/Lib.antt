@@ -6,7 +6,6 @@ pub mod Stepping
 pub mod Sounding
 pub mod Shown
 pub mod Searches
-pub mod Popping
 pub mod Turning
 pub mod Beginnings
 pub mod Forcing

@@ -1,6 +1,7 @@
 -- To agree with a path is to keep its choices as pins. Assumes nothing.
-use Rattle.std.proofs.Common.{◌≡◌, ℕ, Bool, true, false, eqb, ◌⊎◌, List, [], ◌∷◌, sym, refl, ap, ◌∙◌, subst, inl, inr, ⊎_elim}
-use Rattle.std.proofs.lemmas.Bool.{cases_Bool, cond-true, cond-false, and_parts, and_from, eqb-true, eq-eqb}
+use Rattle.std.proofs.Common.{◌≡◌, ℕ, Bool, true, false, ◌⊎◌, List, [], ◌∷◌, sym, refl, ◌∙◌, subst, inl, inr, ⊎_elim, arith}
+use Rattle.std.proofs.lemmas.Bool.Decides.{nat_tests}
+use Rattle.std.proofs.lemmas.Bool.{cases_Bool, cond-true, cond-false}
 use Rattle.model.specs.declared.cell.Cell.{Cell}
 use Rattle.model.specs.declared.path.Side.{Side}
 use Rattle.model.specs.declared.path.Side.TheVariants.{LeftOut, Taken}
@@ -40,10 +41,10 @@ says_side Taken b e = e
 
 -- the cell of a time and step that it is
 pub at_cell : (d : Cell) (t o : ℕ) → is_cell d t o ≡ true → (d.time ≡ t) × (d.step ≡ o)
-at_cell d t o h = let a = and_parts (eqb d.time t) (eqb d.step o) h in (eqb-true _ _ a.0, eqb-true _ _ a.1)
+at_cell d t o h = grind (arith, nat_tests)
 
 pub own_cell : (d : Cell) → is_cell d d.time d.step ≡ true
-own_cell d = and_from _ _ (eq-eqb d.time d.time refl) (eq-eqb d.step d.step refl)
+own_cell d = grind (arith, nat_tests)
 
 pub same_cells : (x y : Cell) → x.time ≡ y.time → x.step ≡ y.step → x ≡ y
 same_cells x y p q = λ i. record { time = p i; step = q i }
@@ -57,7 +58,7 @@ keeps_with pins c path k a = says_keeps (with_path pins path) c (says path a)
     says (e ∷ path) a t o = ⊎_elim
         (λ h. subst (λ (x : Pin). Says x (c t o)) (sym (cond-true _ _ _ h))
         (let q = at_cell e.cell t o h in
-        side_says e.side (c t o) (sym (ap (λ (u : ℕ). c u o) q.0) ∙ sym (ap (λ (u : ℕ). c e.cell.time u) q.1) ∙ a.0)))
+        side_says e.side (c t o) (cc (q.0, q.1, a.0))))
         (λ h. subst (λ (x : Pin). Says x (c t o)) (sym (cond-false _ _ _ h)) (says path a.1 t o))
         (cases_Bool (is_cell e.cell t o))
 
@@ -89,7 +90,7 @@ with_keeps T m pins c (e ∷ path) f k =
     rest : (t o : ℕ) → Says (with_path pins path t o) (c t o)
     rest t o = ⊎_elim
         (λ h. let q = at_cell e.cell t o h in
-        subst (λ (x : Pin). Says x (c t o))
-        (sym (sym (ap (λ (u : ℕ). with_path pins path u o) q.0) ∙ sym (ap (λ (u : ℕ). with_path pins path e.cell.time u) q.1) ∙ free)) tt)
+        let none : unpinned ≡ with_path pins path t o = cc (q.0, q.1, free) in
+        subst (λ (x : Pin). Says x (c t o)) none tt)
         (λ h. subst (λ (x : Pin). Says x (c t o)) (cond-false _ _ _ h) (all t o))
         (cases_Bool (is_cell e.cell t o))

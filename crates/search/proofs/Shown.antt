@@ -27,23 +27,27 @@ use Rattle.search.proofs.PinnedPath.{same_cells}
 use Rattle.search.proofs.Seeing.{seen_contradiction, seen_undecided, seen_whole}
 use Rattle.search.proofs.Sounding.{sound_choose, sound_undo, trail_within, undo_lower, beyond_lower}
 
-module _ (p : Problem) (V : Clauses) (ix : Index) (T : ℕ) (order : List Cell) (pins : Pins) (root : Option CellSides) (m : Marks) (ls : List Level) (n : ℕ)
+module _ {p : Problem} {V : Clauses} {ix : Index} {T : ℕ} {order : List Cell} {pins : Pins} {root : Option CellSides} {m : Marks} {ls : List Level} {n : ℕ}
     (t : ∥ Sound p V ix T order pins root m ls n ∥₁) where
+  -- what is sound with a choice, said with one level more than there were before it
+  newest : 0 < n → Sound p V ix T order pins root m ls n → Sound p V ix T order pins root m ls (suc (n - 1))
+  newest some s = let e : n ≡ suc (n - 1) = omega arith in subst (Sound p V ix T order pins root m ls) e s
+
   pub shown_kept : Kept (Such p T pins) T (steps p) pins (places_in order) (path_at order ls n)
   shown_kept = ∥∥₁_elim t (kept_prop (Such p T pins) T (steps p) pins (places_in order) (path_at order ls n)) (λ s. s.kept)
 
   pub shown_contradiction : m.conflict ≡ true → NoneAgrees (Such p T pins) (path_at order ls n)
   shown_contradiction h c w a = ∥∥₁_elim t ⊥_prop
-      (λ s. seen_contradiction p V ix T pins order (path_at order ls n) m s.well s.largest.kept s.means s.ordered s.range s.kept.fair s.long s.rest h c w a)
+      (λ s. seen_contradiction s h c w a)
 
   pub shown_next : m.conflict ≡ false → (k : ℕ) → k < T * steps p → Undecided m (cell_at order k) → Lower m order k
       → Next (Such p T pins) T (steps p) pins (places_in order) (path_at order ls n) (cell_at order k)
   shown_next calm k r u low = ∥∥₁_elim t (next_prop (Such p T pins) T (steps p) (path_at order ls n) pins (places_in order) (cell_at order k))
-      (λ s. seen_undecided p V ix T pins order (path_at order ls n) m s.well s.largest.kept s.means s.ordered s.range s.kept.fair s.long s.rest calm k r u low)
+      (λ s. seen_undecided s calm k r u low)
 
   pub shown_whole : m.conflict ≡ false → Lower m order (T * steps p) → Only (Such p T pins) T (steps p) (path_at order ls n) (taken_by m p T)
   shown_whole calm all = ∥∥₁_elim t (only_prop (Such p T pins) T (steps p) (path_at order ls n) (such_prop p T pins) (taken_by m p T))
-      (λ s. seen_whole p V ix T pins order (path_at order ls n) m s.well s.largest.kept s.means s.ordered s.range s.kept.fair s.long s.rest calm all)
+      (λ s. seen_whole s calm all)
 
   pub shown_ordered : Ordered T (steps p) (places_in order)
   shown_ordered = record {
@@ -66,24 +70,16 @@ module _ (p : Problem) (V : Clauses) (ix : Index) (T : ℕ) (order : List Cell) 
   shown_placed k h = ∥∥₁_elim t le_prop (λ s. s.placed k h)
 
   pub shown_beyond : 0 < n → n ≤ length ls → m.conflict ≡ false → Lower m order ((get_or ls (n - 1) no_level).place + 1)
-  shown_beyond some room calm k h =
-      let e : n ≡ suc (n - 1) = omega arith in
-      ∥∥₁_elim t (Bool-set _ _) (λ s. beyond_lower p V ix T order pins root m ls (n - 1) (subst (Sound p V ix T order pins root m ls) e s) (omega arith) calm k h)
+  shown_beyond some room calm k h = ∥∥₁_elim t (Bool-set _ _) (λ s. beyond_lower (newest some s) (omega arith) calm k h)
 
   pub shown_trail : 0 < n → n ≤ length ls → (get_or ls (n - 1) no_level).trail ≤ m.len
-  shown_trail some room =
-      let e : n ≡ suc (n - 1) = omega arith in
-      ∥∥₁_elim t le_prop (λ s. trail_within p V ix T order pins root m m ls (n - 1) (subst (Sound p V ix T order pins root m ls) e s) (omega arith))
+  shown_trail some room = ∥∥₁_elim t le_prop (λ s. trail_within (newest some s) (omega arith))
 
   pub shown_lower : 0 < n → n ≤ length ls → (m' : Marks) → Retreated m (get_or ls (n - 1) no_level).trail m' → Lower m' order (get_or ls (n - 1) no_level).place
-  shown_lower some room m' r k h =
-      let e : n ≡ suc (n - 1) = omega arith in
-      ∥∥₁_elim t (Bool-set _ _) (λ s. undo_lower p V ix T order pins root m m' ls (n - 1) (subst (Sound p V ix T order pins root m ls) e s) (omega arith) r k h)
+  shown_lower some room m' r k h = ∥∥₁_elim t (Bool-set _ _) (λ s. undo_lower (newest some s) (omega arith) r k h)
 
   pub shown_undo : 0 < n → n ≤ length ls → (m' : Marks) → Retreated m (get_or ls (n - 1) no_level).trail m' → ∥ Sound p V ix T order pins root m' ls (n - 1) ∥₁
-  shown_undo some room m' r =
-      let e : n ≡ suc (n - 1) = omega arith in
-      ∥∥₁_map t (λ s. sound_undo p V ix T order pins root m m' ls (n - 1) (subst (Sound p V ix T order pins root m ls) e s) (omega arith) r)
+  shown_undo some room m' r = ∥∥₁_map t (λ s. sound_undo (newest some s) (omega arith) r)
 
   pub shown_choose : (m' : Marks) (l : Level) → n < length ls → l.place < T * steps p → m.conflict ≡ false → l.trail ≡ m.len → Lower m order l.place
       → Kept (Such p T pins) T (steps p) pins (places_in order) (path_at order ls n ++ (entry_of order l ∷ []))
@@ -91,4 +87,4 @@ module _ (p : Problem) (V : Clauses) (ix : Index) (T : ℕ) (order : List Cell) 
       → ∥ Sound p V ix T order pins root m' (set ls n l) (n + 1) ∥₁
   shown_choose m' l room inside calm trail low kept d =
       subst (λ (k : ℕ). ∥ Sound p V ix T order pins root m' (set ls n l) k ∥₁) (sym (add-one n))
-      (∥∥₁_map t (λ s. sound_choose p V ix T order pins root m m' ls n l s room inside calm trail low kept d))
+      (∥∥₁_map t (λ s. sound_choose l s room inside calm trail low kept d))

@@ -20,8 +20,9 @@ use Rattle.marks.specs.declared.tables.Marks.{Marks}
 use Rattle.marks.specs.declared.index.Index.{Index}
 use Rattle.marks.specs.declared.cells.CellSides.{CellSides}
 use Rattle.marks.specs.Grows.{on, Grows, Retreated}
-use Rattle.marks.specs.Rules.{Rest, seeds}
-use Rattle.marks.specs.Deciding.{mark_of, Decided}
+use Rattle.marks.specs.Rules.{seeds}
+use Rattle.marks.specs.Cells.{CellsOf}
+use Rattle.marks.specs.Deciding.{mark_of, Decided, Begun}
 use Rattle.marks.specs.Pinning.{says_take, says_leave}
 use Rattle.marks.specs.Meaning.{Means}
 use Rattle.marks.proofs.Undone.{restored}
@@ -29,7 +30,7 @@ use Rattle.search.specs.declared.level.Level.{Level}
 use Rattle.search.specs.Pinned.{pin_of, with_path, InRange}
 use Rattle.search.specs.Levels.{cell_at, no_level, entry_of, path_at, told, Lower}
 use Rattle.search.specs.Ordering.{places_in}
-use Rattle.search.specs.Sound.{Sound, Rooted}
+use Rattle.search.specs.Sound.{Sound}
 use Rattle.search.proofs.PinnedPath.{own_cell, with_absent}
 use Rattle.search.proofs.Choosing.{one_more, pinned_here}
 use Rattle.search.proofs.Stepping.{path_more, path_suc, path_set, lower_grows, grows_back, levels_grow, levels_set}
@@ -56,14 +57,14 @@ last_fair T m pins (x ∷ path) e f = let r = last_fair T m pins path e f.4 in
     not_end [] a q = a.0 q
     not_end (y ∷ path) a q = not_end path a.1 q
 
-module _ (p : Problem) (V : Clauses) (ix : Index) (T : ℕ) (order : List Cell) (pins : Pins) (root : Option CellSides) where
+module _ {p : Problem} {V : Clauses} {ix : Index} {T : ℕ} {order : List Cell} {pins : Pins} {root : Option CellSides} where
   -- a choice of a cell: its mark is among what is given now
-  pub sound_choose : (m m' : Marks) (ls : List Level) (n : ℕ) (l : Level) → Sound p V ix T order pins root m ls n → n < length ls
+  pub sound_choose : {m m' : Marks} {ls : List Level} {n : ℕ} (l : Level) → Sound p V ix T order pins root m ls n → n < length ls
       → l.place < T * steps p → m.conflict ≡ false → l.trail ≡ m.len → Lower m order l.place
       → Kept (Such p T pins) T (steps p) pins (places_in order) (path_at order ls n ++ (entry_of order l ∷ []))
       → Decided ix m (mark_of l.side (cell_at order l.place)) m'
       → Sound p V ix T order pins root m' (set ls n l) (suc n)
-  sound_choose m m' ls n l s room inside calm trail low kept d = record {
+  sound_choose {m} {m'} {ls} {n} l s room inside calm trail low kept d = record {
     well = s.well;
     largest = s.largest;
     means = s.means;
@@ -71,7 +72,7 @@ module _ (p : Problem) (V : Clauses) (ix : Index) (T : ℕ) (order : List Cell) 
     range = s.range;
     rooted = s.rooted;
     long = d.grows.same_length ∙ s.long;
-    rest = subst (λ (path : List Entry). Rest ix (seeds ix (with_path pins path) T) m') (sym path')
+    rest = rw path'
         (d.rest (seeds ix (with_path pins old) T) (seeds ix (with_path pins (old ++ (entry_of order l ∷ []))) T)
         (one_more ix T pins old (cell_at order l.place) l.side fair.0 (with_absent pins old (cell_at order l.place) fair.3 ∙ fair.2))
         s.rest);
@@ -79,18 +80,17 @@ module _ (p : Problem) (V : Clauses) (ix : Index) (T : ℕ) (order : List Cell) 
       m,
       calm,
       s.long,
-      sym trail ∙ ap (λ (x : Level). x.trail) (sym same),
-      subst (λ (path : List Entry). Rest ix (seeds ix (with_path pins path) T) m) (sym (path_set order ls n n l (omega arith))) s.rest,
-      subst (λ (x : Level). Lower m order x.place) (sym same) low,
+      rw same (sym trail),
+      rw (path_set order ls n n l (omega arith)) s.rest,
+      rw same low,
       d.grows,
       levels_set ix T pins order ls n l n m (omega arith) s.levels,
     );
     placed = λ k h. ⊎_elim
-        (λ (e : k ≡ n). subst (λ (x : Level). x.place < T * steps p) (sym (ap (λ (i : ℕ). get_or (set ls n l) i no_level) e ∙ same)) inside)
-        (λ (ne : k ≢ n). let off : get_or (set ls n l) k no_level ≡ get_or ls k no_level = rw get_or-set_other in
-        subst (λ (x : Level). x.place < T * steps p) (sym off) (s.placed k (omega arith)))
+        (λ (e : k ≡ n). rw (e, same) inside)
+        (λ (ne : k ≢ n). rw get_or-set_other (s.placed k (omega arith)))
         (cases_eq k n);
-    kept = subst (Kept (Such p T pins) T (steps p) pins (places_in order)) (sym path') kept;
+    kept = rw path' kept;
   }
     where
       old : List Entry
@@ -106,19 +106,16 @@ module _ (p : Problem) (V : Clauses) (ix : Index) (T : ℕ) (order : List Cell) 
       fair = last_fair T (steps p) pins (path_at order ls n) (entry_of order l) kept.fair
 
   -- the newest choice taken back: the marks are those before it
-  module _ (m m' : Marks) (ls : List Level) (n : ℕ) (s : Sound p V ix T order pins root m ls (suc n)) (room : n < length ls) where
-    before : Marks
-    before = s.levels.0
-
+  module _ {m : Marks} {ls : List Level} {n : ℕ} (s : Sound p V ix T order pins root m ls (suc n)) (room : n < length ls) where
     pub trail_within : (get_or ls n no_level).trail ≤ m.len
-    trail_within = subst (λ (k : ℕ). k ≤ m.len) s.levels.3 s.levels.6.longer
+    trail_within = omega (arith, s.levels.3, s.levels.6.longer)
 
     pub undo_path : path_at order ls (suc n) ≡ path_at order ls n ++ (entry_of order (get_or ls n no_level) ∷ [])
     undo_path = path_suc order ls n room
 
-    module _ (r : Retreated m (get_or ls n no_level).trail m') where
+    module _ {m' : Marks} (r : Retreated m (get_or ls n no_level).trail m') where
       back : Retreated m s.levels.0.len m'
-      back = subst (λ (k : ℕ). Retreated m k m') (sym s.levels.3) r
+      back = rw s.levels.3 r
 
       grown : Grows s.levels.0 m'
       grown = grows_back s.levels.0 m m' s.levels.1 s.levels.6 back
@@ -142,27 +139,27 @@ module _ (p : Problem) (V : Clauses) (ix : Index) (T : ℕ) (order : List Cell) 
       pub undo_lower : Lower m' order (get_or ls n no_level).place
       undo_lower = lower_grows grown order (get_or ls n no_level).place s.levels.5
 
-  -- a search begins with an empty path
-  pub sound_begin : (m : Marks) (ls : List Level) → WellFormed p → Largest p V → Means ix p V → Ordered T (steps p) (places_in order)
-      → InRange pins T (steps p) → Rooted ix T pins root → m.length ≡ T → Rest ix (seeds ix pins T) m → Sound p V ix T order pins root m ls 0
-  sound_begin m ls well largest means ordered range rooted long rest = record {
+  -- a search begins with an empty path, and the marks of the pins alone
+  pub sound_begin : {m : Marks} {ls : List Level} {n : ℕ} → WellFormed p → Largest p V → Means ix p V → Ordered T (steps p) (places_in order)
+      → InRange pins T (steps p) → Begun ix pins T m → CellsOf m root → n ≡ 0 → Sound p V ix T order pins root m ls n
+  sound_begin {m} {ls} well largest means ordered range b k none = subst (Sound p V ix T order pins root m ls) (sym none) (record {
     well = well;
     largest = largest;
     means = means;
     ordered = ordered;
     range = range;
-    rooted = rooted;
-    long = long;
-    rest = rest;
+    rooted = (m, b.the_length, b.rest, k);
+    long = b.the_length;
+    rest = b.rest;
     levels = tt;
-    placed = λ k h. absurd (omega arith);
+    placed = λ i h. absurd (omega arith);
     kept = kept_none (Such p T pins) T (steps p) pins (places_in order);
-  }
+  })
 
   -- behind the newest choice: every cell up to and with its own has a mark
-  pub beyond_lower : (m : Marks) (ls : List Level) (n : ℕ) → Sound p V ix T order pins root m ls (suc n) → n < length ls → m.conflict ≡ false
+  pub beyond_lower : {m : Marks} {ls : List Level} {n : ℕ} → Sound p V ix T order pins root m ls (suc n) → n < length ls → m.conflict ≡ false
       → Lower m order ((get_or ls n no_level).place + 1)
-  beyond_lower m ls n s room calm k h = ⊎_elim
+  beyond_lower {m} {ls} {n} s room calm k h = ⊎_elim
       (λ (q : k ≡ l.place). subst (λ (i : ℕ). told m (cell_at order i) ≡ true) (sym q) (own l.side refl))
       (λ (ne : k ≢ l.place). lower_grows s.levels.6 order l.place s.levels.5 k (omega arith))
       (cases_eq k l.place)

@@ -1,9 +1,8 @@
 -- The levels of a search, with one more and with one less. Assumes nothing.
-use Rattle.std.proofs.Common.{◌≡◌, ℕ, zero, suc, ◌<◌, ◌≤◌, true, false, ◌≢◌, List, [], ◌∷◌, ◌++◌, map, length, get_or, take, set, sym, ap, ◌∙◌, subst, ⊎_elim, add-one, arith, get_or-set_other}
+use Rattle.std.proofs.Common.{◌≡◌, ℕ, zero, suc, ◌<◌, ◌≤◌, true, false, ◌≢◌, List, [], ◌∷◌, ◌++◌, map, length, get_or, take, set, sym, ap, ◌∙◌, ⊎_elim, add-one, arith, get_or-set_other}
 use Rattle.std.proofs.lemmas.List.{map-append, take_more, take-set-le}
 use Rattle.std.proofs.lemmas.Bool.{both_ways, or_cases, or_left, or_right}
 use Rattle.model.specs.declared.cell.Cell.{Cell}
-use Rattle.model.specs.declared.path.Entry.{Entry}
 use Rattle.model.specs.Plans.{Pins}
 use Rattle.marks.specs.declared.mark.Mark.{Mark}
 use Rattle.marks.specs.declared.mark.Mark.TheVariants.{Taken, LeftOut}
@@ -11,11 +10,9 @@ use Rattle.marks.specs.declared.tables.Marks.{Marks}
 use Rattle.marks.specs.declared.index.Index.{Index}
 use Rattle.marks.specs.Tables.{mark_at}
 use Rattle.marks.specs.Grows.{on, Grows, Retreated}
-use Rattle.marks.specs.Rules.{Rest, seeds}
 use Rattle.marks.proofs.Growth.{grows_trans}
 use Rattle.marks.proofs.Trail.{in_trail_prefix}
 use Rattle.search.specs.declared.level.Level.{Level}
-use Rattle.search.specs.Pinned.{with_path}
 use Rattle.search.specs.Levels.{cell_at, no_level, entry_of, path_at, told, Lower, Levels}
 
 -- ---- the path
@@ -67,9 +64,9 @@ module _ (ix : Index) (T : ℕ) (pins : Pins) (order : List Cell) where
         w.0,
         w.1,
         w.2,
-        w.3 ∙ ap (λ (x : Level). x.trail) (sym same),
-        subst (λ (path : List Entry). Rest ix (seeds ix (with_path pins path) T) w.0) (sym (path_set order ls n k l (omega arith))) w.4,
-        subst (λ (x : Level). Lower w.0 order x.place) (sym same) w.5,
+        rw same w.3,
+        rw (path_set order ls n k l (omega arith)) w.4,
+        rw same w.5,
         w.6,
         levels_set ls k l n w.0 (omega arith) w.7,
       )

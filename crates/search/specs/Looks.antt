@@ -42,7 +42,7 @@ abbrev pub cells : Ask → ℕ
 cells a = a.length * steps a.problem
 
 abbrev pub path_of : Search → List Entry
-path_of s = path_at s.order s.levels s.depth
+path_of s = path_at s.order s.path.levels s.path.depth
 
 -- what stands past the end of a path
 abbrev pub no_entry : Entry

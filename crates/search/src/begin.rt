@@ -21,6 +21,7 @@ use model::source::ProblemSource;
 use model::table::ProblemTable;
 
 // Works the marks out from the pins alone, and answers those of the cells, unless they contradict.
+// Not a method of Search, whose tables fit together again only once the path is empty, too.
 pub(crate) fn work_out(
     marks: &mut Marks,
     index: &Index,
@@ -47,7 +48,7 @@ impl Search {
         self.length = 0;
         self.pins = Pins::none();
         self.root = work_out(&mut self.marks, &self.index, &self.pins, 0);
-        self.depth = 0;
+        self.path.clear();
     }
 
     // Takes up a length, with the ranking's order of the cells, and with no pins.
@@ -60,7 +61,7 @@ impl Search {
         self.length = length;
         self.pins = Pins::none();
         self.root = work_out(&mut self.marks, &self.index, &self.pins, length);
-        self.depth = 0;
+        self.path.clear();
     }
 
     // Pins a cell in range, whatever it was pinned to.
@@ -70,7 +71,7 @@ impl Search {
     {
         self.pins.set(cell, side);
         self.root = work_out(&mut self.marks, &self.index, &self.pins, self.length);
-        self.depth = 0;
+        self.path.clear();
     }
 
     // Frees a cell.
@@ -79,6 +80,6 @@ impl Search {
     {
         self.pins.clear(cell);
         self.root = work_out(&mut self.marks, &self.index, &self.pins, self.length);
-        self.depth = 0;
+        self.path.clear();
     }
 }

@@ -20,10 +20,8 @@ impl Search {
             return Forced::Contradiction;
         };
         match cells.get(cell) {
-            Some(side) => match side {
-                Side::Taken => Forced::Taken,
-                Side::LeftOut => Forced::LeftOut,
-            },
+            Some(Side::Taken) => Forced::Taken,
+            Some(Side::LeftOut) => Forced::LeftOut,
             None => Forced::Undecided,
         }
     }

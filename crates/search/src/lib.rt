@@ -7,6 +7,7 @@ pub mod forced;
 pub mod fresh;
 pub mod level;
 pub mod look;
+pub mod path;
 pub mod run;
 pub mod tables;
 pub mod tells;

@@ -31,11 +31,7 @@ impl Search {
         requires { place < 8192 }
         ensures { MatchBool result (Undecided self.now.marks (cell_at self.now.order place)) (told self.now.marks (cell_at self.now.order place) ≡ true) }
     {
-        let cell = self.order[place];
-        match self.marks.decided(cell) {
-            Some(_) => false,
-            None => true,
-        }
+        self.marks.decided(self.order[place]).is_none()
     }
 
     // The lowest place from `from` on whose cell has no mark.
@@ -43,22 +39,17 @@ impl Search {
         ensures { Opens self.now.marks self.now.order (cells (asked self.now)) from result }
     {
         let count = self.cell_count();
-        for place in from..count {
-            if self.is_open(place) {
-                return Some(place);
-            }
-        }
-        None
+        (from..count).find(|place| self.is_open(*place))
     }
 
     // The place behind that of the newest choice: every lower cell has a mark.
     fn beyond(&self) -> usize
         ensures { self.now.marks.conflict ≡ false → Lower self.now.marks self.now.order result }
     {
-        if self.depth == 0 {
-            return 0;
+        match self.path.last() {
+            Some(level) => level.place as usize + 1,
+            None => 0,
         }
-        self.levels[self.depth - 1].place as usize + 1
     }
 
     // Looks at the marks.

@@ -16,12 +16,9 @@ impl Search {
         ensures turned { Turned self.old result self.new }
     {
         while let Some(level) = self.undo() {
-            match level.side {
-                Side::LeftOut => {
-                    self.choose(level.place, Side::Taken);
-                    return true;
-                }
-                Side::Taken => {}
+            if level.side == Side::LeftOut {
+                self.choose(level.place, Side::Taken);
+                return true;
             }
         }
         false

@@ -5,7 +5,7 @@ ghost use Rattle.clauses.specs.Waiting.{kept_in};
 ghost use Rattle.marks.specs.Pinning.{pins_of};
 ghost use Rattle.search.specs.Sound.{Sound};
 
-use crate::level::Level;
+use crate::path::Path;
 use clauses::record::ClauseRecord;
 use marks::cells::CellSides;
 use marks::index::Index;
@@ -14,6 +14,7 @@ use marks::tables::Marks;
 use model::cell::Cell;
 use model::table::ProblemTable;
 
+// One struct: were the marks and the path apart from what is asked, each function that changes them would require and ensure `Sound`.
 #[derive(Drop)]
 pub struct Search {
     pub(crate) problem: ProblemTable,
@@ -27,13 +28,10 @@ pub struct Search {
     pub(crate) root: Option<CellSides>,
     // the marks that the pins and the path force
     pub(crate) marks: Marks,
-    pub(crate) levels: [Level; 8192],
-    pub(crate) depth: usize,
+    pub(crate) path: Path,
     // the marks of the cells of the plan that was found last
     pub(crate) plan: CellSides,
     ghost short: { length ≤ 32 },
-    ghost deep: { depth ≤ 8192 },
     ghost order_sized: { size order ≡ 8192 },
-    ghost levels_sized: { size levels ≡ 8192 },
-    ghost sound: { ∥ Sound (problem_of problem) (kept_in clauses) index length order (pins_of pins) root marks levels depth ∥₁ },
+    ghost sound: { ∥ Sound (problem_of problem) (kept_in clauses) index length order (pins_of pins) root marks path.levels path.depth ∥₁ },
 }

@@ -42,10 +42,7 @@ impl Search {
         ensures { MatchOption result (size (path_of self.now) ≤ place)
             (λ e. (place < size (path_of self.now)) × (e ≡ slice_index_or (path_of self.now) place no_entry)) }
     {
-        if place >= self.depth {
-            return None;
-        }
-        let level = self.levels[place];
+        let level = self.path.get(place)?;
         let cell = self.order[level.place as usize];
         Some(Entry {
             cell,

@@ -1,5 +1,5 @@
 use Rattle.std.proofs.Common.{refl}
-use Rattle.search.proofs.Searches.{first_now}
+use Rattle.search.proofs.Shown.{shown_first}
 use Rattle.search.proofs.Turning.{add_fits, add_choice}
 use Rattle.search.proofs.tables.Search.advance.Goals as goal
 
@@ -7,7 +7,7 @@ pub choose-requires : goal.choose-requires
 choose-requires c = add_fits c.args.self.now c.in-Undecided.place c.in-Undecided.ensures
 
 pub returns-in-Whole : goal.returns-in-Whole
-returns-in-Whole c = record { same = refl; advanced = first_now c.args.self.now _ c.in-Whole.ensures }
+returns-in-Whole c = record { same = refl; advanced = shown_first c.args.self.now.sound _ c.in-Whole.ensures }
 
 pub returns-in-Undecided : goal.returns-in-Undecided
 returns-in-Undecided c = record {

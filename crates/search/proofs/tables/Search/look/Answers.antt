@@ -1,9 +1,10 @@
 use Rattle.std.proofs.Common.{sym, ◌∙◌}
-use Rattle.search.proofs.Searches.{contradiction_now, choosable_now, whole_now}
+use Rattle.search.proofs.Shown.{shown_contradiction}
+use Rattle.search.proofs.Searches.{choosable_now, whole_now}
 use Rattle.search.proofs.tables.Search.look.Goals as goal
 
 pub returns-then-contradicts : goal.returns-then-contradicts
-returns-then-contradicts c = contradiction_now c.args.self.now (sym c.contradicts.ensures ∙ c.if-contradicts.true)
+returns-then-contradicts c = shown_contradiction c.args.self.now.sound (sym c.contradicts.ensures ∙ c.if-contradicts.true)
 
 pub returns-in-Some : goal.returns-in-Some
 returns-in-Some c = let calm = sym c.contradicts.ensures ∙ c.if-contradicts.false in

@@ -6,4 +6,4 @@ abbrev pub invariant-loop : goal.invariant-loop
 invariant-loop l = (asked l.self ≡ asked l.initial.self) × (l.self.plan ≡ l.initial.self.plan)
 
 abbrev pub decreases-loop : goal.decreases-loop
-decreases-loop l = l.self.depth
+decreases-loop l = l.self.path.depth

@@ -12,4 +12,4 @@ invariant-loop-level l =
     × ((behind : List Entry) × (path_of l.initial.self ≡ path_of l.self ++ behind))
 
 abbrev pub decreases-loop-level : goal.decreases-loop-level
-decreases-loop-level l = l.self.depth
+decreases-loop-level l = l.self.path.depth
