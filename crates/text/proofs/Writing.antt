@@ -1,8 +1,7 @@
 -- How what the writer adds joins, and what its two runs give.
-use Rattle.std.proofs.Common.{◌≡◌, ℕ, ◌+◌, ◌/◌, ◌%◌, ◌^◌, ◌<◌, ◌≤◌, ◌-◌, List, [], ◌∷◌, ◌++◌, length, take, drop, decimal, sym, refl, ap, ◌∙◌, subst, append_assoc, length-append, arith}
+use Rattle.std.proofs.Common.{◌≡◌, ℕ, ◌+◌, ◌/◌, ◌%◌, ◌^◌, ◌<◌, ◌≤◌, List, [], ◌∷◌, ◌++◌, length, take, drop, decimal, sym, refl, ap, ◌∙◌, subst, append_assoc, length-append, arith}
 use Rattle.std.proofs.lemmas.Fmt.{decimal_digit, decimal_step}
 use Rattle.std.proofs.lemmas.List.{drop_at, take_at}
-use Rattle.std.proofs.Math.Nat.{min-eq_left, min-le_left}
 use Rattle.text.specs.declared.write.Writer.{Writer}
 use Rattle.text.specs.Written.{Wrote, Stands, TooFew}
 use Rattle.text.specs.Writers.{Writes}
@@ -12,7 +11,10 @@ pub writes_more : {a b : List ℕ} {u v w : Writer} → Writes a u v → Writes 
 writes_more {a} {b} f g = record {
   same_bytes = g.same_bytes ∙ f.same_bytes;
   counts = let long = length-append a b in let i = f.counts in let j = g.counts in grind arith;
-  adds = λ base text w. rw (sym (append_assoc text a b)) (g.adds base (text ++ a) (f.adds base text w));
+  adds = λ h base text w.
+      let long = length-append a b in
+      let i = f.counts in
+      rw (sym (append_assoc text a b)) (g.adds (grind arith) base (text ++ a) (f.adds (grind arith) base text w));
 }
 
 -- the same text in another form
@@ -34,21 +36,21 @@ start : (base : List ℕ) → Wrote base base 0 []
 start base = record { long = refl; counts = refl; same = λ _. refl }
 
 -- what is written from the front is counted
-counted : {text : List ℕ} {v w : Writer} → v.at ≡ 0 → Writes text v w → Wrote v.out.now w.out.now w.at text
-counted {text} {v} {w} none f = f.adds v.out.now [] (subst (λ (n : ℕ). Wrote v.out.now v.out.now n []) (sym none) (start v.out.now))
+counted : {text : List ℕ} {v w : Writer} → v.at ≡ 0 → length text < 2 ^ 64 → Writes text v w → Wrote v.out.now w.out.now w.at text
+counted {text} {v} {w} none h f = f.adds (omega (arith, none, h)) v.out.now [] (subst (λ (n : ℕ). Wrote v.out.now v.out.now n []) (sym none) (start v.out.now))
 
 -- the first run, over no bytes, counts; the second writes
 pub too_few : {text out : List ℕ} {v w : Writer} → v.at ≡ 0 → Writes text v w → length out < w.at → TooFew text out out
-too_few {text} none f less =
-    record { fewer = omega (arith, less, (counted none f).counts, min-le_left (length text) (2 ^ 64 - 1)); same = refl }
+too_few {text} none f less = let e = f.counts in record { fewer = grind arith; same = refl }
 
 pub stands : {text out now : List ℕ} {n : ℕ} {v w : Writer} → v.at ≡ 0 → Writes text v w → w.at ≤ length out → length out < 2 ^ 63
     → {s t : Writer} → s.at ≡ 0 → s.out.now ≡ out → Writes text s t → n ≡ t.at → now ≡ t.out.now → Stands text out n now
 stands {text} {out} {now} {n} none f room small {s} {t} front same g is left =
-    let w : Wrote out t.out.now t.at text = subst (λ (z : List ℕ). Wrote z t.out.now t.at text) same (counted front g) in
-    let within : length text ≤ length out = omega (arith, (counted none f).counts) in
+    let first = f.counts in
+    let within : length text ≤ length out = grind arith in
+    let w : Wrote out t.out.now t.at text = subst (λ (z : List ℕ). Wrote z t.out.now t.at text) same (counted front (omega (arith, within, small)) g) in
     let e : now ≡ text ++ drop (length text) out = left ∙ w.same within in
-    let counts : n ≡ length text = is ∙ (w.counts ∙ min-eq_left (omega arith)) in
+    let counts : n ≡ length text = is ∙ w.counts in
     let k : length text ≡ n = sym counts in
     record {
       counts = counts;

@@ -1,14 +1,14 @@
 -- Text that is written into a caller's bytes. Assumes nothing.
-use Rattle.std.specs.Prelude.{◌≡◌, ℕ, ◌<◌, ◌≤◌, ◌-◌, ◌^◌, min, List, ◌++◌, length, take, drop, Some, None, Ok, Err, Option, Result}
+use Rattle.std.specs.Prelude.{◌≡◌, ℕ, ◌<◌, ◌≤◌, List, ◌++◌, length, take, drop, Some, None, Ok, Err, Option, Result}
 
 -- There is one writer. It counts every byte and writes only those for which there is room, so it is run twice:
 -- over no bytes, to measure, and then over the caller's.
 
--- the writer began with the bytes of base and has counted so far the length of text, as far as a word counts; where the
--- whole text has room, the bytes now begin with it, and go on as they were
+-- the writer began with the bytes of base and has counted so far the length of text; where the whole text has room,
+-- the bytes now begin with it, and go on as they were
 pub record Wrote (base now : List ℕ) (count : ℕ) (text : List ℕ) : Type 0 where
   pub long : length now ≡ length base
-  pub counts : count ≡ min (length text) (2 ^ 64 - 1)
+  pub counts : count ≡ length text
   pub same : length text ≤ length base → now ≡ text ++ drop (length text) base
 
 -- whatever text was written before, more now stands behind it
