@@ -1,9 +1,9 @@
 -- What a run says, from what the search did. Assumes nothing.
-use Rattle.std.proofs.Common.{◌≡◌, ℕ, zero, suc, ◌<◌, min, Bool, cond, ◌&&◌, eqb, ltb, List, [], ◌∷◌, ◌++◌, length, get_or, decimal, Option, sym, refl, ap, ◌∙◌, subst, ⊎_elim, arith}
+use Rattle.std.proofs.Common.{◌≡◌, ℕ, zero, suc, ◌<◌, min, Bool, true, cond, ◌&&◌, eqb, ltb, List, [], ◌∷◌, ◌++◌, length, get_or, Some, None as Nothing, decimal, Option, is_some, MatchOption, sym, refl, ap, ◌∙◌, subst, ⊎_elim, arith}
 use native.Mathlib.Nat.{ℕ_set}
 use mathlib.Core.Logic.{∥∥₁_elim, ∥∥₁_map}
 use mathlib.Core.HLevel.{⊥_prop}
-use Rattle.std.proofs.lemmas.Bool.{and_from, and_parts, lt-ltb, eq-eqb, eqb-true, cases_Bool, cond-true, cond-false}
+use Rattle.std.proofs.lemmas.Bool.{and_from, and_parts, lt-ltb, lt-leb, or_from, eq-eqb, eqb-true, cases_Bool, cond-true, cond-false}
 use Rattle.model.specs.declared.cell.Cell.{Cell}
 use Rattle.planner.specs.declared.tables.Stage.{Stage}
 use Rattle.planner.specs.declared.tables.Stage.TheVariants.{Asked}
@@ -15,7 +15,7 @@ use Rattle.model.specs.declared.path.Side.{Side}
 use Rattle.model.specs.declared.path.Side.TheVariants as side
 use Rattle.model.specs.Paths.{takes}
 use Rattle.model.specs.Problems.{steps}
-use Rattle.model.specs.Plans.{Cells, Pin, Pins}
+use Rattle.model.specs.Plans.{Cells, Pin, Pins, unpinned}
 use Rattle.model.specs.Held.{problem_of}
 use Rattle.model.specs.Choices.{Fair}
 use Rattle.model.specs.Firsts.{First, None, NoneLeft}
@@ -28,11 +28,13 @@ use Rattle.search.specs.declared.tables.Search.{Search}
 use Rattle.search.specs.Levels.{cell_at}
 use Rattle.search.specs.Looks.{Ask, asked, Wanted, path_of, plan_of, Ran}
 use Rattle.search.proofs.Searches.{kept_now}
+use Rattle.model.specs.declared.answers.Decline.{Decline}
+use Rattle.model.specs.declared.answers.Decline.TheVariants.{Unopened, Unasked, OutOfRange, Pinned}
 use Rattle.planner.specs.declared.tables.Planner.{Planner}
 use Rattle.planner.specs.Endings.{EndsWith, Ends}
-use Rattle.planner.specs.Calls.{RunSays, CardOf, Writes, outcome, Pins as PinsOnly}
+use Rattle.planner.specs.Calls.{RunSays, CardOf, Writes, outcome, Pins as PinsOnly, unopened, unasked, unless_asked, unless_out, pin_declines}
 use Rattle.planner.specs.Checks.{InRange}
-use Rattle.planner.specs.Ledger.{pin_for}
+use Rattle.planner.specs.Ledger.{pin_for, is_pinned}
 use Rattle.search.specs.Begins.{Repinned}
 
 pub no_entries : (path : List Entry) → length path ≡ 0 → path ≡ []
@@ -115,6 +117,29 @@ repins p q t o c x taken r e h =
       here = pin_here old new c (pin_of x) t o r.time r.step (omega (arith, r.in_time, p.search.short)) (h.pins t o) ∙ pin_so x taken e;
       elsewhere = λ u k n. pin_there old new c (pin_of x) t o r.time r.step u k n (h.pins u k);
     }
+
+-- a cell in range that is found with a pin is declined as pinned
+module _ (p : Planner) (t o : ℕ) (c : Cell) (r : InRange p t o c) where
+  at_cell : (m : Option Decline) → unless_asked p (unless_out p t o m) ≡ m
+  at_cell m =
+      ap (λ (x : Stage). cond (unopened x) (Some Unopened) (cond (unasked x) (Some Unasked) (unless_out p t o m))) r.stage
+      ∙ ap (λ (b : Bool). cond b (Some OutOfRange) m) (or_from _ _ (lt-leb p.search.length t r.in_time) (lt-leb (steps (problem_of p.search.problem)) o r.in_count))
+
+  pinned_so : (found : Option Side) → is_some found ≡ true
+      → MatchOption found (pins_of p.search.pins c.time c.step ≡ unpinned) (λ x. pins_of p.search.pins c.time c.step ≡ pin_of x)
+      → is_pinned (pins_of p.search.pins c.time c.step) ≡ true
+  pinned_so Nothing e h = absurd (let z : ◌≡◌ {A = ℕ} 0 1 = cc in omega arith)
+  pinned_so (Some side.Taken) e h = ap is_pinned h
+  pinned_so (Some side.LeftOut) e h = ap is_pinned h
+
+  pub pinned_number : (found : Option Side) → is_some found ≡ true
+      → MatchOption found (pins_of p.search.pins c.time c.step ≡ unpinned) (λ x. pins_of p.search.pins c.time c.step ≡ pin_of x)
+      → Some Pinned ≡ pin_declines p t o
+  pinned_number found e h = sym
+      (at_cell (cond (is_pinned (pins_of p.search.pins t o)) (Some Pinned) Nothing)
+      ∙ ap (λ (u : ℕ). cond (is_pinned (pins_of p.search.pins u o)) (Some Pinned) Nothing) (sym r.time)
+      ∙ ap (λ (k : ℕ). cond (is_pinned (pins_of p.search.pins c.time k)) (Some Pinned) Nothing) (sym r.step)
+      ∙ ap (λ (b : Bool). cond b (Some Pinned) Nothing) (pinned_so found e h))
 
 -- the card that is made of the search's tables is the plan's
 pub table_card : (s : Search) (table : List StepSet) (m T : ℕ) → table ≡ s.plan.taken → m ≡ steps (problem_of s.problem) → T ≡ s.length

@@ -18,6 +18,9 @@ use model::ranking::Ranking;
 use model::source::ProblemSource;
 use search::tables::Search;
 
+// The most choices that a run may be granted.
+const MOST_CHOICES: u32 = 1000000;
+
 // Each call that may be declined says `kept` itself: it relates the planner before and after the call, which no type's invariant states.
 impl Planner {
     // A planner that nothing was opened in.
@@ -113,7 +116,7 @@ impl Planner {
         ensures obeys { Obeys self.old (run_call choices (reply outcome_number result)) self.new }
     {
         let last = self.asked()?;
-        if choices == 0 || choices > 1000000 {
+        if choices == 0 || choices > MOST_CHOICES {
             return Err(Decline::Grant);
         }
         match last {

@@ -4,6 +4,9 @@ use Rattle.planner.specs.Obeys.{ledger}
 use Rattle.planner.proofs.Obeying.{ask_obeys}
 use Rattle.planner.proofs.tables.Planner.ask.Goals as goal
 
+pub ask-requires : goal.ask-requires
+ask-requires g c = omega arith
+
 not_fitting : (b : Bool) → ◌≡◌ {A = ℕ} (cond b 21 0) 0 → b ≡ false
 not_fitting true h = absurd (omega arith)
 not_fitting false h = refl

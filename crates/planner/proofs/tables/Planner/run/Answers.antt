@@ -9,7 +9,7 @@ returns-in_default-clause-says c = again c.args.self.now c.args.choices c.in_ok-
 
 pub returns-in_default-clause-obeys : goal.returns-in_default-clause-obeys
 returns-in_default-clause-obeys c =
-    run_again c.args.self.now c.args.choices c.in_ok-last.last c.in_ok-last.ensures.checked.1 c.in_default.not-NotYet c.if-choices-eq0.false c.if-choices-gt1000000.false
+    run_again c.args.self.now c.args.choices c.in_ok-last.last c.in_ok-last.ensures.checked.1 c.in_default.not-NotYet c.if-choices-eq0.false c.if-choices-gt-MOST_CHOICES.false
 
 pub invariant_of-self : goal.invariant_of-self
 invariant_of-self c = record {
@@ -21,5 +21,5 @@ returns-clause-says c = says c.args.self.now _ c.args.choices c.run-outcome.resu
 
 pub returns-clause-obeys : goal.returns-clause-obeys
 returns-clause-obeys c =
-    run_obeys c.args.self.now _ c.args.choices c.run-outcome.result (c.in_ok-last.ensures.checked.1 ∙ ap stage.Asked c.in-NotYet.is) c.if-choices-eq0.false c.if-choices-gt1000000.false refl
+    run_obeys c.args.self.now _ c.args.choices c.run-outcome.result (c.in_ok-last.ensures.checked.1 ∙ ap stage.Asked c.in-NotYet.is) c.if-choices-eq0.false c.if-choices-gt-MOST_CHOICES.false refl
     c.run-outcome.ensures.same c.run-outcome.ensures.ran
