@@ -13,4 +13,3 @@ loop-b-preserved c =
     let dv : digit_value (get_or c.args.s.now c.loop-b.b-index 0) ≡ get_or c.args.s.now c.loop-b.b-index 0 - 48 = grind (arith, nat_tests) in
     let v = digits_value_more 10 c.args.s.now c.loop-b.b-index (omega arith) ∙ ap (λ x. digits_value 10 (take c.loop-b.b-index c.args.s.now) * 10 + x) dv in
     (below_more _ _ c.loop-b.invariant.0 d, subst (λ k. Stands k c.further-n.result) (sym v) (next_digit _ _ _ _ c.loop-b.invariant.1 c.further-n.ensures.small c.further-n.ensures.large))
-
