@@ -3,7 +3,6 @@ use Rattle.std.specs.Int.{IsInRange}
 use Rattle.std.specs.Char.{digit_value}
 use Rattle.std.specs.Str.Parse.{digits_value}
 use Rattle.std.proofs.lemmas.Int.Digits.{digits_value_more}
-use Rattle.std.proofs.lemmas.List.{take_all}
 use Rattle.std.proofs.lemmas.Bool.Decides.{nat_tests}
 use Rattle.board.proofs.Cutting.{Stands, next_digit}
 use Rattle.board.proofs.field.number.Goals as goal
@@ -14,9 +13,3 @@ loop-b-preserved c =
     let dv : digit_value (get_or c.args.s.now c.loop-b.b-index 0) ≡ get_or c.args.s.now c.loop-b.b-index 0 - 48 = grind (arith, nat_tests) in
     let v = digits_value_more 10 c.args.s.now c.loop-b.b-index (omega arith) ∙ ap (λ x. digits_value 10 (take c.loop-b.b-index c.args.s.now) * 10 + x) dv in
     (below_more _ _ c.loop-b.invariant.0 d, subst (λ k. Stands k c.further-n.result) (sym v) (next_digit _ _ _ _ c.loop-b.invariant.1 c.further-n.ensures.small c.further-n.ensures.large))
-
-pub returns : goal.returns
-returns c =
-    let t = ap (digits_value 10) (take_all c.loop-b.b-index c.args.s.now (omega arith)) in
-    let s = subst (λ k. Stands k c.loop-b.n) t c.loop-b.invariant.1 in
-    record { some = search rules; digits = λ i h. c.loop-b.invariant.0 i (omega arith); small = s.0; large = s.1 }
