@@ -8,6 +8,7 @@ use model::path::Side;
 use sets::facts::flip;
 
 // A literal true at a time, or a cell taken or left out. Literal 2f is fact f true, 2f + 1 fact f false.
+// Three cases, not a cell with its side: the rules speak of taken and of left out cells apart.
 #[derive(Clone, Copy, PartialEq, Eq, Debug)]
 pub enum Mark {
     Fact(u8, u8),
