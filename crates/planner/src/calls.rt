@@ -4,7 +4,7 @@ ghost use Rattle.model.specs.Problems.{steps as row_count};
 ghost use Rattle.model.specs.Held.{problem_of};
 ghost use Rattle.search.specs.Begins.{Opened as OpenedOver, Asked as AskedFor};
 ghost use Rattle.search.specs.Looks.{asked as asked_of, path_of, no_entry};
-ghost use Rattle.planner.specs.Calls.{declined, unless_asked, unless_out, ask_declines, run_declines, look_declines, unasked, Began, RunSays};
+ghost use Rattle.planner.specs.Calls.{declined, unless_asked, unless_out, ask_declines, run_declines, look_declines, unopened, unasked, Began, RunSays};
 ghost use Rattle.model.specs.Answers.{outcome_number, forced_number};
 ghost use Rattle.planner.specs.Ledger.{Event.open_call, Event.ask_call, Event.run_call, Event.forced_call, Event.path_call};
 ghost use Rattle.planner.specs.Obeys.{Obeys, Fresh, reply};
@@ -112,7 +112,7 @@ impl Planner {
         ensures kept { OnErr result (self.new ≡ self.old) }
         ensures says { IfOk result (λ o. RunSays self.old choices o self.new) }
         ensures after { IfOk result (λ o. self.new.stage ≡ Stage.Asked o) }
-        ensures same { (asked_of self.new.search ≡ asked_of self.old.search) × (unasked self.new.stage ≡ unasked self.old.stage) }
+        ensures same { (asked_of self.new.search ≡ asked_of self.old.search) × (unopened self.new.stage ≡ unopened self.old.stage) × (unasked self.new.stage ≡ unasked self.old.stage) }
         ensures obeys { Obeys self.old (run_call choices (reply outcome_number result)) self.new }
     {
         let last = self.asked()?;

@@ -13,9 +13,8 @@ use text::card::{write_card, write_none, write_not_yet};
 impl Planner {
     // Writes the card into the bytes, if there is room for all of it.
     fn write(&self, outcome: Outcome, out: &mut [u8]) -> Option<usize>
-        requires asked { self.now.stage ≡ Stage.Asked outcome }
-        ensures card { Writes self.now out.old result out.new }
-        ensures told { WritesCard self.now out.old result out.new }
+        ensures card { self.now.stage ≡ Stage.Asked outcome → Writes self.now out.old result out.new }
+        ensures told { self.now.stage ≡ Stage.Asked outcome → WritesCard self.now out.old result out.new }
     {
         match outcome {
             Outcome::NotYet => write_not_yet(out),

@@ -18,9 +18,9 @@ says p out out' none Nothing w = (none, w)
 pub returns-clause-says : goal.returns-clause-says
 returns-clause-says c =
     subst (λ (r : Result ℕ Decline). Reports c.args.self.now c.args.out.now r c.write.new.out) (sym c.ok_or.ensures.value)
-    (says c.args.self.now c.args.out.now c.write.new.out (sym c.in_ok-outcome.ensures.number) c.write.result c.write.ensures.card)
+    (says c.args.self.now c.args.out.now c.write.new.out (sym c.in_ok-outcome.ensures.number) c.write.result (c.write.ensures.card c.in_ok-outcome.ensures.checked.1))
 
 pub returns-clause-obeys : goal.returns-clause-obeys
 returns-clause-obeys c =
     subst (λ (r : Result ℕ Decline). Obeys c.args.self.now (report_call c.args.out.now (reply (λ n. n) r) c.write.new.out) c.args.self.now) (sym c.ok_or.ensures.value)
-    (report_obeys c.args.self.now c.args.out.now c.write.new.out c.in_ok-outcome.outcome c.in_ok-outcome.ensures.checked.1 c.write.result c.write.ensures.told)
+    (report_obeys c.args.self.now c.args.out.now c.write.new.out c.in_ok-outcome.outcome c.in_ok-outcome.ensures.checked.1 c.write.result (c.write.ensures.told c.in_ok-outcome.ensures.checked.1))
