@@ -21,7 +21,7 @@ pub struct Search {
     pub(crate) clauses: ClauseRecord,
     pub(crate) index: Index,
     pub(crate) length: usize,
-    // by place, the cell
+    // by place, the cell; fixed memory, of which the length and the steps say how much is in use
     pub(crate) order: [Cell; 8192],
     pub(crate) pins: Pins,
     // the marks of the cells that the pins alone force, unless these contradict

@@ -70,6 +70,7 @@ fn read_lines(problem: &mut SheetProblem, sheet: &[u8]) -> Result<(), SheetFault
     ensures { MatchResult result (λ _. Reads sheet.now (job problem.new)) (λ e. Faulted sheet.now e) }
 {
     let mut reader = Reader::open(sheet)?;
+    // at least once: the empty sheet has a first line too, which is its fault
     loop {
         reader.one_line(problem)?;
         if reader.rest.is_empty() {

@@ -1,4 +1,4 @@
-// What both rankings ask of a place and of a cell.
+// What both rankings ask of a place and of a cell. Each is an order of its own beyond that, by another quotient and remainder.
 ghost use Rattle.std.specs.Prelude.{◌≡◌, ◌*◌, ◌&&◌, nat_lt};
 ghost use Rattle.model.specs.Rankings.{ranked};
 

@@ -1,4 +1,5 @@
-// The one writer: it counts every byte, and writes those for which there is room.
+// The one writer: it counts every byte, and writes those for which there is room. The library's `write!` promises what was written
+// only where it succeeds, and here too few bytes have to stand as before.
 ghost use Rattle.std.specs.Prelude.{◌≡◌, ℕ, List, [], ◌∷◌, decimal, Option};
 ghost use Rattle.text.specs.Written.{Fitted};
 ghost use Rattle.text.specs.Writers.{Writes};
