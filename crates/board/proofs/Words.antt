@@ -10,6 +10,24 @@ use Rattle.board.specs.declared.field.SourceName.TheVariants.{Sheet, Water}
 use Rattle.board.specs.Fields.{Number, SourceIs}
 use Rattle.board.specs.Commands.{Spells, Begins, InFields, FieldsOf, headed, word_of}
 
+-- a line that spells a command begins with its word, and the other way round
+pub spells_begins : (c : Command) (w : Word) (s : List ℕ) → ((v : Word) (f : List ℕ) → s ≡ headed v f → w ≡ v) → Spells c s → Begins c w s
+spells_begins c w s only p =
+    let e : w ≡ word_of c = only (word_of c) p.rest p.whole in
+    record {
+      rest = p.rest;
+      whole = subst (λ v. s ≡ headed v p.rest) (sym e) p.whole;
+      inside = record { word = sym e; fields = p.fields };
+    }
+
+pub begins_spells : (c : Command) (w : Word) (s : List ℕ) → Begins c w s → Spells c s
+begins_spells c w s b =
+    record {
+      rest = b.rest;
+      whole = subst (λ v. s ≡ headed v b.rest) (sym b.inside.word) b.whole;
+      fields = b.inside.fields;
+    }
+
 -- all words, in the order of the program's table
 abbrev pub every_word : List Word
 every_word = word_is.Open ∷ word_is.Ask ∷ word_is.Pin ∷ word_is.Unpin ∷ word_is.Run ∷ word_is.Forced ∷ word_is.Path ∷ word_is.Report ∷ word_is.Kept ∷ []
@@ -37,6 +55,7 @@ read_word s =
     (cond (eqb a 112) (cond (eqb b 105) word_is.Pin word_is.Path) (cond (eqb b 117) word_is.Run word_is.Report))))))
 
 word_read : (w : Word) (f : List ℕ) → read_word (headed w f) ≡ w
+unfolding read_word
 word_read word_is.Open f = refl
 word_read word_is.Ask f = refl
 word_read word_is.Pin f = refl
