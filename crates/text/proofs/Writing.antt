@@ -1,9 +1,9 @@
 -- How what the writer adds joins, and what its two runs give.
 use Rattle.std.proofs.Common.{◌≡◌, ℕ, ◌+◌, ◌/◌, ◌%◌, ◌^◌, ◌<◌, ◌≤◌, List, [], ◌∷◌, ◌++◌, length, take, drop, decimal, sym, refl, ap, ◌∙◌, subst, append_assoc, length-append, arith}
-use Rattle.std.proofs.lemmas.Fmt.{decimal_digit, decimal_step}
-use Rattle.std.proofs.lemmas.List.{drop_at, take_at}
+use Rattle.std.proofs.lemmas.Fmt.{decimal_digit, decimal_step, length-decimal-le}
+use Rattle.std.proofs.lemmas.List.{append-nil, drop_at, take_at}
 use Rattle.text.specs.declared.write.Writer.{Writer}
-use Rattle.text.specs.Written.{Wrote, Stands, TooFew}
+use Rattle.text.specs.Written.{Wrote, Adds, Stands, TooFew}
 use Rattle.text.specs.Writers.{Writes}
 
 -- one text behind another
@@ -16,6 +16,9 @@ writes_more {a} {b} f g = record {
       let i = f.counts in
       rw (sym (append_assoc text a b)) (g.adds (grind arith) base (text ++ a) (f.adds (grind arith) base text w));
 }
+
+pub adds_none : {o : List ℕ} {i : ℕ} → Adds [] o i o i
+adds_none base text w = rw append-nil w
 
 -- the same text in another form
 pub writes_same : {a b : List ℕ} {u v : Writer} → b ≡ a → Writes a u v → Writes b u v
@@ -31,6 +34,13 @@ digit n {u} {v} {w} small is f =
 pub digits : (n : ℕ) {u v v' w : Writer} → 10 ≤ n → n < 2 ^ 64 → Writes (decimal (n / 10)) u v → v' ≡ v → Writes ((48 + n % 10) ∷ []) v' w → Writes (decimal n) u w
 digits n {u} {v} {v'} {w} more fits f is g =
     writes_same (decimal_step n more fits) (writes_more f (subst (λ z. Writes ((48 + n % 10) ∷ []) z w) is g))
+
+-- a number that a word holds has at most twenty digits
+pub twenty : (n : ℕ) {u v : Writer} → n < 2 ^ 64 → Writes (decimal n) u v → v.at ≤ u.at + 20
+twenty n fits f =
+    let place = f.counts in
+    let few = length-decimal-le 20 n (omega arith) (omega arith) fits in
+    grind arith
 
 start : (base : List ℕ) → Wrote base base 0 []
 start base = record { long = refl; counts = refl; same = λ _. refl }
