@@ -1,5 +1,5 @@
 -- A line that spells a command begins with the command's word, which stands in the table of words.
-use Rattle.std.proofs.Common.{◌≡◌, ℕ, ◌<◌, ◌≤◌, Bool, true, false, List, [], ◌∷◌, ◌++◌, Option, None, Some, MatchOption, IsSomeAnd, get_or, refl, sym, ap, ◌∙◌, subst, arith}
+use Rattle.std.proofs.Common.{◌≡◌, ℕ, ◌<◌, ◌≤◌, Bool, true, false, cond, eqb, List, [], ◌∷◌, ◌++◌, Option, None, Some, MatchOption, IsSomeAnd, get_or, refl, sym, ap, ◌∙◌, subst, arith}
 use Rattle.std.proofs.lemmas.List.{append_cancel_left}
 use Rattle.board.specs.declared.command.Command.{Command}
 use Rattle.board.specs.declared.command.Command.TheVariants as command_is
@@ -8,7 +8,25 @@ use Rattle.board.specs.declared.command.Word.TheVariants as word_is
 use Rattle.board.specs.declared.field.SourceName.{SourceName}
 use Rattle.board.specs.declared.field.SourceName.TheVariants.{Sheet, Water}
 use Rattle.board.specs.Fields.{Number, SourceIs}
-use Rattle.board.specs.Commands.{Spells, Begins, InFields, FieldsOf, word_of}
+use Rattle.board.specs.Commands.{Spells, Begins, InFields, FieldsOf, headed, word_of}
+
+-- a line that spells a command begins with its word, and the other way round
+pub spells_begins : (c : Command) (w : Word) (s : List ℕ) → ((v : Word) (f : List ℕ) → s ≡ headed v f → w ≡ v) → Spells c s → Begins c w s
+spells_begins c w s only p =
+    let e : w ≡ word_of c = only (word_of c) p.rest p.whole in
+    record {
+      rest = p.rest;
+      whole = subst (λ v. s ≡ headed v p.rest) (sym e) p.whole;
+      inside = record { word = sym e; fields = p.fields };
+    }
+
+pub begins_spells : (c : Command) (w : Word) (s : List ℕ) → Begins c w s → Spells c s
+begins_spells c w s b =
+    record {
+      rest = b.rest;
+      whole = subst (λ v. s ≡ headed v b.rest) (sym b.inside.word) b.whole;
+      fields = b.inside.fields;
+    }
 
 -- all words, in the order of the program's table
 abbrev pub every_word : List Word
@@ -27,6 +45,30 @@ listed word_is.Forced = (5, omega arith, refl)
 listed word_is.Path = (6, omega arith, refl)
 listed word_is.Report = (7, omega arith, refl)
 listed word_is.Kept = (8, omega arith, refl)
+
+-- the only word that a line can begin with, by its first two bytes
+read_word : List ℕ → Word
+read_word s =
+    let a = get_or s 0 0 in
+    let b = get_or s 1 0 in
+    cond (eqb a 111) word_is.Open (cond (eqb a 97) word_is.Ask (cond (eqb a 117) word_is.Unpin (cond (eqb a 102) word_is.Forced (cond (eqb a 107) word_is.Kept
+    (cond (eqb a 112) (cond (eqb b 105) word_is.Pin word_is.Path) (cond (eqb b 117) word_is.Run word_is.Report))))))
+
+word_read : (w : Word) (f : List ℕ) → read_word (headed w f) ≡ w
+unfolding read_word
+word_read word_is.Open f = refl
+word_read word_is.Ask f = refl
+word_read word_is.Pin f = refl
+word_read word_is.Unpin f = refl
+word_read word_is.Run f = refl
+word_read word_is.Forced f = refl
+word_read word_is.Path f = refl
+word_read word_is.Report f = refl
+word_read word_is.Kept f = refl
+
+-- a line begins with one word at most
+pub only_one : (v w : Word) (f g : List ℕ) → headed v f ≡ headed w g → v ≡ w
+only_one v w f g e = sym (word_read v f) ∙ ap read_word e ∙ word_read w g
 
 -- a line that begins as no command of any word spells none
 pub none_spelled : (s : List ℕ) (n : ℕ) → 9 ≤ n → ((k : ℕ) → k < n → (c : Command) → Begins c (get_or every_word k word_is.Open) s → ⊥) → (c : Command) → Spells c s → ⊥

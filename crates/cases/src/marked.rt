@@ -17,7 +17,7 @@ mod tests {
         let table = ProblemTable::of(source);
         let record = ClauseRecord::of(source);
         let mut index = Index::empty();
-        index.build(&table, record.rows());
+        index.build(&table, &record.rows());
         index
     }
 

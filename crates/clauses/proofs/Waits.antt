@@ -159,6 +159,9 @@ module _ (p : Problem) (o : ℕ) (r r' : ClauseRecord) (e : Struck r r' (Spoilt 
 
 -- ---- moves
 
+pub moved_none : (p : Problem) (r : ClauseRecord) → Moved p r r
+moved_none p r = record { facts = refl; good = λ g. g; noted = record { held = λ x y h. h; all = λ e. e }; carried = λ o q n s. s; less = omega arith }
+
 pub moved_more : (p : Problem) (r s t : ClauseRecord) → Moved p r s → Moved p s t → Moved p r t
 moved_more p r s t m n = record {
   facts = n.facts ∙ m.facts;

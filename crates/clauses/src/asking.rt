@@ -29,9 +29,9 @@ impl ClauseRecord {
     }
 
     // By a literal's number, the literals that it is kept in a pair with.
-    pub fn rows(&self) -> &[LiteralSet; 128]
-        ensures { (a b : Literal) → lit_in (slice_index_or result.now (code a) no_literals) b ≡ kept_in self.now a b }
+    pub fn rows(&self) -> [LiteralSet; 128]
+        ensures { (a b : Literal) → lit_in (slice_index_or result (code a) no_literals) b ≡ kept_in self.now a b }
     {
-        self.pairs.table()
+        *self.pairs.table()
     }
 }

@@ -44,7 +44,7 @@ impl Search {
         self.problem = ProblemTable::of(source);
         self.clauses.make(&self.problem);
         let rows = self.clauses.rows();
-        self.index.build(&self.problem, rows);
+        self.index.build(&self.problem, &rows);
         self.length = 0;
         self.pins = Pins::none();
         self.root = work_out(&mut self.marks, &self.index, &self.pins, 0);

@@ -22,7 +22,7 @@ impl Search {
         let mut clauses = ClauseRecord::empty();
         clauses.make(&problem);
         let mut index = Index::empty();
-        index.build(&problem, clauses.rows());
+        index.build(&problem, &clauses.rows());
         let pins = Pins::none();
         let mut marks = Marks::new();
         let root = work_out(&mut marks, &index, &pins, 0);

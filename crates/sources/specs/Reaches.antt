@@ -1,6 +1,6 @@
 -- The reach set: a round through the steps, what a round that brings nothing shows, and the filter that follows.
-use Rattle.std.specs.Prelude.{◌≡◌, ℕ, ◌+◌, ◌<◌, ◌≤◌, Bool, true, false, not, ◌&&◌, List, MatchBool, slice_index_or, refl}
-use Rattle.std.proofs.Common.{sym, ap, subst, ◌∙◌, ⊎_elim, arith, below_more}
+use Rattle.std.specs.Prelude.{◌≡◌, ℕ, ◌+◌, ◌<◌, ◌≤◌, Bool, true, false, not, ◌&&◌, ◌≢◌, List, length, MatchBool, slice_index_or, slice_set, refl}
+use Rattle.std.proofs.Common.{sym, ap, subst, ◌∙◌, ⊎_elim, arith, below_more, get_or-set_same, get_or-set_other}
 use Rattle.std.proofs.lemmas.List.{get_or_past, ext_get_or}
 use Rattle.std.proofs.lemmas.Bool.{and_parts, and_from, cases_Bool, cases_lt, true≢false, not-true}
 use Rattle.std.proofs.lemmas.Bool.Decides.{nat_tests}
@@ -88,6 +88,16 @@ exact_from p a table r h = record {
   spares = λ o l e n m. r.sound n ((h o l).none e n m);
   spared = λ o l n. (h o l).some (λ k m. r.complete k (n k m));
 }
+
+-- one step more in the table
+pub told_more : (p : Problem) (a : LiteralSet) (o : ℕ) (table : List Bool) (s : Step) (flag : Bool) → o < length table
+    → s ≡ step p o → Outside s a flag
+    → ((k : ℕ) → k < o → Outside (step p k) a (slice_index_or table k false))
+    → (k : ℕ) → k < o + 1 → Outside (step p k) a (slice_index_or (slice_set table o flag) k false)
+told_more p a o table s flag room is here below =
+    below_more (λ k. Outside (step p k) a (slice_index_or (slice_set table o flag) k false)) o
+    (λ k h. let ne : k ≢ o = omega arith in subst (Outside (step p k) a) (sym (get_or-set_other table o k flag false ne)) (below k h))
+    (subst (Outside (step p o) a) (sym (get_or-set_same table o flag false room)) (subst (λ (x : Step). Outside x a flag) is here))
 
 -- an exact table makes the filter
 pub filters_from : (p : Problem) (table : List Bool) → Exact p table → Filters p (closing p table)

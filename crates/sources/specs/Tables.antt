@@ -1,8 +1,8 @@
 -- Rows that are told by their numbers: how many there are, and which one is read.
-use Rattle.std.specs.Prelude.{◌≡◌, ℕ, zero, suc, ◌+◌, ◌<◌, ◌≤◌, Bool, false, List, length, slice_index_or, refl}
+use Rattle.std.specs.Prelude.{◌≡◌, ℕ, zero, suc, ◌+◌, ◌<◌, ◌≤◌, Bool, false, cond, List, length, nat_lt, slice_index_or, refl}
 use Rattle.std.proofs.Common.{sym, ap, subst, ◌∙◌, ⊎_elim, arith, add-one}
 use Rattle.std.proofs.lemmas.List.{get_or_past}
-use Rattle.std.proofs.lemmas.Bool.{cases_lt}
+use Rattle.std.proofs.lemmas.Bool.{cases_lt, lt-ltb, le-ltb, cond-true, cond-false}
 use Rattle.model.specs.Problems.{Problem, steps, step, closed_step}
 use Rattle.sources.specs.Listed.{tabulate, Gathers}
 use Rattle.sources.specs.Reach.{closing, closed_where}
@@ -20,6 +20,13 @@ tabulate_within (suc n) row (suc i) d l = tabulate_within n (λ j. row (suc j)) 
 
 pub tabulate_past : {A : Type 0} (n : ℕ) (row : ℕ → A) (i : ℕ) (d : A) → n ≤ i → slice_index_or (tabulate n row) i d ≡ d
 tabulate_past n row i d l = get_or_past (tabulate n row) i d (omega (arith, length_tabulate n row))
+
+pub index_or_tabulate : {A : Type 0} (n : ℕ) (row : ℕ → A) (i : ℕ) (d : A) → slice_index_or (tabulate n row) i d ≡ cond (nat_lt i n) (row i) d
+index_or_tabulate n row i d =
+    ⊎_elim
+    (λ l. tabulate_within n row i d l ∙ sym (cond-true (nat_lt i n) (row i) d (lt-ltb i n l)))
+    (λ l. tabulate_past n row i d l ∙ sym (cond-false (nat_lt i n) (row i) d (le-ltb i n l)))
+    (cases_lt i n)
 
 -- each step of a problem with closed steps, beyond the count too
 pub closing_step : (p : Problem) (table : List Bool) (o : ℕ) → step (closing p table) o ≡ closed_where (slice_index_or table o false) (step p o)

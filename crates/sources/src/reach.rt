@@ -1,8 +1,8 @@
 // The reach set of a source's problem, and the steps that it leaves out of reach.
-ghost use Rattle.std.specs.Prelude.{◌≡◌};
+ghost use Rattle.std.specs.Prelude.{◌≡◌, ◌<◌};
 ghost use Rattle.sources.specs.Reach.{Exact};
 ghost use Rattle.sources.specs.Rounds.{Outside, Widened, Round, ReachSet};
-ghost use Rattle.model.specs.Problems.{steps};
+ghost use Rattle.model.specs.Problems.{steps, step as row};
 
 use model::source::ProblemSource;
 use model::step::Step;
@@ -52,10 +52,17 @@ fn reach_set<S: ProblemSource>(source: &S) -> LiteralSet
     }
 }
 
+// Whether a need of the step of a number is outside the set; beyond the count no step is asked for.
+fn is_out<S: ProblemSource>(source: &S, number: usize, reach: LiteralSet) -> bool
+    ensures { number < steps (S.meaning source.now) → Outside (row (S.meaning source.now) number) reach result }
+{
+    number < source.steps() && lacks(source.step(number), reach)
+}
+
 // True for each step with a need outside the reach set.
 pub(crate) fn closed_steps<S: ProblemSource>(source: &S) -> [bool; 256]
     ensures { Exact (S.meaning source.now) result }
 {
     let reach = reach_set(source);
-    array::from_fn(|o| lacks(source.step(o), reach))
+    array::from_fn(|o| is_out(source, o, reach))
 }

@@ -74,9 +74,14 @@ impl Text for &[u8] {
     }
 }
 
-// A text into the caller's bytes, or nothing where they are too few.
+// A text into the caller's bytes, or nothing where they are too few. Its length is known, so it is compared and not measured, and
+// it is copied whole.
 pub fn write_text(text: &[u8], out: &mut [u8]) -> Option<usize>
     ensures { Fitted text.now out.old result out.new }
 {
-    text.fit(out)
+    if text.len() > out.len() {
+        return None;
+    }
+    out[..text.len()].copy_from_slice(text);
+    Some(text.len())
 }
