@@ -11,7 +11,7 @@ use Rattle.marks.specs.Grows.{on, Has, Grows, Added}
 use Rattle.marks.specs.Rules.{Maker, On, NoMaker, Concluded, Follows, Rules, Forced, Contradiction, Good, Worked, Covers, Done, Settled, Exactly}
 use Rattle.marks.specs.Rules.{Concluded.stays_false, Concluded.was_true, Concluded.only_maker, Follows.f_stays_false, Follows.f_was_true, Follows.f_only_maker}
 use Rattle.marks.proofs.Trail.{opp_lit_opp, same_is, same_self, find_in, in_trail_more, in_trail_prefix, at_in_trail, never_both_in}
-use Rattle.marks.proofs.Growth.{grows_trans, has_grows}
+use Rattle.marks.proofs.Growth.{grows_refl, grows_trans, has_grows}
 
 -- ---- premises of what follows at t from a literal's makers
 
@@ -53,6 +53,9 @@ forced_rules ix T seed = record {
 }
 
 -- ---- growth by what is forced
+
+pub worked_refl : (ix : Index) (a : Marks) → Worked ix a a
+worked_refl ix a = record { grows = grows_refl a; good = λ s g. g }
 
 pub worked_trans : {ix : Index} {a b c : Marks} → Worked ix a b → Worked ix b c → Worked ix a c
 worked_trans f g = record { grows = grows_trans f.grows g.grows; good = λ s h. g.good s (f.good s h) }

@@ -1,11 +1,16 @@
 -- What pins say, by the tables.
-use Rattle.std.proofs.Common.{◌≡◌, Bool, true, false, cond, sym, refl, ◌∙◌, ap₂}
+use Rattle.std.proofs.Common.{◌≡◌, ℕ, ◌≤◌, Bool, true, false, cond, sym, refl, ap, ◌∙◌, ap₂, arith}
 use Rattle.std.proofs.lemmas.Bool.{both_ways}
+use Rattle.std.proofs.lemmas.List.{get_or_past}
+use Rattle.sets.specs.Sets.{step_in, no_steps}
+use Rattle.sets.specs.declared.steps.StepSet.{StepSet}
 use Rattle.model.specs.declared.path.Side.{Side}
 use Rattle.model.specs.declared.path.Side.TheVariants as side
 use Rattle.model.specs.Plans.{Pin, unpinned, take, leave}
+use Rattle.marks.specs.declared.pins.Pins.{Pins}
 use Rattle.marks.specs.Cells.{same_side}
-use Rattle.marks.specs.Pinning.{pin_of, says_take, says_leave}
+use Rattle.marks.specs.Pinning.{pins_of, pin_of, says_take, says_leave}
+use Rattle.marks.proofs.Empties.{no_step}
 
 pub take_said : (p : Pin) → says_take p ≡ true → p ≡ take
 take_said unpinned h = absurd (both_ways false refl h)
@@ -46,3 +51,9 @@ one_side side.LeftOut h k = both_ways false refl h
 pub pin_told : (s : Side) → cond (same_side s side.Taken) take (cond (same_side s side.LeftOut) leave unpinned) ≡ pin_of s
 pin_told side.Taken = refl
 pin_told side.LeftOut = refl
+
+-- nothing is pinned beyond the tables
+pub pins_past : (pins : Pins) (t o : ℕ) → 32 ≤ t → pins_of pins t o ≡ unpinned
+pins_past pins t o h = ap₂ (λ (a b : Bool). cond a take (cond b leave unpinned))
+    (ap (λ (s : StepSet). step_in s o) (get_or_past pins.cells.taken t no_steps (omega (arith, pins.cells.all_taken))) ∙ no_step o)
+    (ap (λ (s : StepSet). step_in s o) (get_or_past pins.cells.left t no_steps (omega (arith, pins.cells.all_left))) ∙ no_step o)

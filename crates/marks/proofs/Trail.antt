@@ -1,6 +1,6 @@
 -- The trail: what one more mark does to it, and that it fits its table. Assumes nothing.
 use Rattle.std.proofs.Common.{◌≡◌, ℕ, zero, suc, ◌+◌, ◌-◌, ◌*◌, ◌/◌, ◌%◌, ◌<◌, ◌≤◌, Bool, true, false, cond, not, ◌&&◌, ◌||◌, eqb, ◌≢◌, ◌⊎◌, List, [], ◌∷◌, length, set, sym, refl, ap, ◌∙◌, subst, ap₂, inl, inr, ⊎_elim, add-one, arith, get_or-set_other, get_or-set_same}
-use Rattle.std.proofs.lemmas.Bool.{both_ways, cases_Bool, cases_eq, cases_order, and_parts, and_from, or_cases, or_left, or_right, eqb-true, eq-eqb, ne_eqb, ltb-true, leb-true, cond-true, cond-false}
+use Rattle.std.proofs.lemmas.Bool.{both_ways, cases_Bool, cases_eq, cases_order, and_parts, and_from, or_cases, or_left, or_right, eqb-true, eq-eqb, ne_eqb, lt-ltb, ltb-true, leb-true, cond-true, cond-false}
 use Rattle.std.specs.List.{AllByRecursion, IsDistinct, list_any}
 use Rattle.std.proofs.lemmas.Map.Steps.{length-le_from_distinct_below}
 use Rattle.sets.specs.Literals.{Literal, lit, code, opposite}
@@ -90,6 +90,16 @@ opp_lit_byte l h = ⊎_elim (λ e. omega arith) (λ e. omega arith) (opp_either 
 
 pub opp_lit_small : (l : ℕ) → l < 128 → opp_lit l < 128
 opp_lit_small l h = ⊎_elim (λ e. omega arith) (λ e. omega arith) (opp_either l)
+
+pub opp_ranged : (T : ℕ) (x : Mark) → ranged T x ≡ true → ranged T (opp x) ≡ true
+opp_ranged T (Fact t l) h = let a = and_parts _ _ h in and_from _ _ a.0 (lt-ltb _ _ (opp_lit_small l (ltb-true l 128 a.1)))
+opp_ranged T (Taken t l) h = h
+opp_ranged T (LeftOut t l) h = h
+
+pub opp_opp : (x : Mark) → opp (opp x) ≡ x
+opp_opp (Fact t l) = ap (λ (k : ℕ). Fact t k) (opp_lit_opp l)
+opp_opp (Taken t o) = refl
+opp_opp (LeftOut t o) = refl
 
 -- ---- membership in the trail
 

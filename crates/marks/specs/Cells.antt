@@ -7,6 +7,7 @@ use Rattle.model.specs.declared.path.Side.{Side}
 use Rattle.model.specs.declared.path.Side.TheVariants.{LeftOut, Taken}
 use Rattle.marks.specs.declared.tables.Marks.{Marks}
 use Rattle.marks.specs.declared.cells.CellSides.{CellSides}
+use Rattle.marks.specs.declared.cells.CellMarks.{CellMarks}
 
 -- by time, the steps on a side
 abbrev pub table_of : CellSides → Side → List StepSet
@@ -31,6 +32,11 @@ same_side Taken Taken = true
 same_side Taken LeftOut = false
 same_side LeftOut Taken = false
 same_side LeftOut LeftOut = true
+
+-- they are the sides that the marks have of the cells, and whether the marks contradict
+pub record CellMarksOf (m : Marks) (c : CellMarks) : Type 0 where
+  pub same_sides : c.sides ≡ m.marked.cells
+  pub same_conflict : c.conflict ≡ m.conflict
 
 -- the sides that the marks have of the cells, or none where the marks contradict
 abbrev pub CellsOf : Marks → Option CellSides → Type 0

@@ -3,10 +3,10 @@ ghost use Rattle.std.specs.Prelude.{◌≡◌, ℕ, ◌<◌, ◌≤◌, Bool, tr
 ghost use Rattle.marks.specs.Grows.{on, Added};
 ghost use Rattle.marks.specs.Rules.{Pinned, seeds};
 ghost use Rattle.marks.specs.Pinning.{pins_of};
-ghost use Rattle.marks.specs.Cells.{CellsOf};
+ghost use Rattle.marks.specs.Cells.{CellMarksOf, CellsOf};
 ghost use Rattle.marks.specs.Deciding.{mark_of, Undecided, Begun};
 
-use crate::cells::CellSides;
+use crate::cells::{CellMarks, CellSides};
 use crate::index::Index;
 use crate::mark::Mark;
 use crate::marked::Marked;
@@ -53,14 +53,17 @@ impl Marks {
         self.marked.cells.get(cell)
     }
 
-    // The sides that the marks have of the cells.
-    pub fn cells(&self) -> CellSides
-        ensures { result ≡ self.now.marked.cells }
+    // The marks of the cells: their sides, and whether the marks contradict.
+    pub fn cells(&self) -> CellMarks
+        ensures { CellMarksOf self.now result }
     {
-        self.marked.cells
+        CellMarks {
+            sides: self.marked.cells,
+            conflict: self.conflict,
+        }
     }
 
-    // The same, or none where the marks contradict.
+    // The sides of the cells, or none where the marks contradict.
     pub fn calm_cells(&self) -> Option<CellSides>
         ensures { CellsOf self.now result }
     {

@@ -11,3 +11,11 @@ pub struct CellSides {
     ghost all_taken: { length taken ≡ 32 },
     ghost all_left: { length left ≡ 32 },
 }
+
+// The sides of the cells, and whether the marks contradict.
+#[derive(Clone, Copy)]
+pub struct CellMarks {
+    pub(crate) sides: CellSides,
+    // a flag beside the sides: after a contradiction the marks stay, until they are taken back, and whoever asks gets both
+    pub(crate) conflict: bool,
+}

@@ -7,6 +7,7 @@ pub mod cells;
 pub mod check;
 pub mod decide;
 pub mod index;
+pub mod kept;
 mod literal;
 pub mod mark;
 pub mod marked;

@@ -89,8 +89,11 @@ impl CellSides {
     pub(crate) fn set(&mut self, cell: Cell, side: Side)
         ensures { (s : ASide) (t o : ℕ) → side_in self.new s t o ≡ cond (nat_lt cell.time 32 && same_cell cell t o) (same_side side s) (side_in self.old s t o) }
     {
-        self.clear(cell);
         if cell.time < 32 {
+            match side {
+                Side::Taken => self.strike(cell, Side::LeftOut),
+                Side::LeftOut => self.strike(cell, Side::Taken),
+            }
             self.enter(cell, side);
         }
     }

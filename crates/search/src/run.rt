@@ -60,7 +60,7 @@ impl Search {
         ensures empty { path_of self.new ≡ [] }
         ensures plan { self.new.plan ≡ self.old.marks.marked.cells }
     {
-        self.plan = self.marks.cells();
+        self.plan = *self.marks.cells().sides();
         self.rewind();
     }
 
