@@ -1,5 +1,5 @@
 // Reads a sheet line by line, and leaves what it states or the empty problem.
-ghost use Rattle.std.specs.Prelude.{◌≡◌, ◌+◌, ◌<◌, true, Some, MatchResult};
+ghost use Rattle.std.specs.Prelude.{◌≡◌, ◌+◌, ◌<◌, true, Some, None, MatchResult};
 ghost use Rattle.sheet.specs.Exact.{OneReading, Faulted, Exact};
 ghost use Rattle.sheet.specs.Job.{Adds, Flawed, field, no_job};
 ghost use Rattle.sheet.specs.Kind.{allowed, in_step, after_step};
@@ -76,11 +76,12 @@ impl<'a> Reader<'a> {
 }
 
 // Every line of the sheet, from the first on.
-fn read_lines(problem: &mut SheetProblem, sheet: &[u8]) -> Result<(), SheetFault>
-    requires { job problem.old ≡ no_job }
-    ensures { MatchResult result (λ _. Reads sheet.now (job problem.new)) (λ e. Faulted sheet.now e) }
+fn read_lines(problem: &mut SheetProblem, front: Reader) -> Result<(), SheetFault>
+    requires front { (front.line ≡ 1) × (front.previous ≡ None) }
+    requires fresh { job problem.old ≡ no_job }
+    ensures { MatchResult result (λ _. Reads front.entry.rest.now (job problem.new)) (λ e. Faulted front.entry.rest.now e) }
 {
-    let mut reader = Reader::open(sheet)?;
+    let mut reader = front;
     // at least once: the empty sheet has a first line too, which is its fault
     loop {
         reader.one_line(problem)?;
@@ -96,7 +97,8 @@ fn fill(sheet: &[u8], problem: &mut SheetProblem) -> Result<(), SheetFault>
     ensures { MatchResult result (λ _. Reads sheet.now (job problem.new)) (λ e. Faulted sheet.now e × (job problem.new ≡ no_job)) }
 {
     *problem = SheetProblem::empty();
-    let read = read_lines(problem, sheet);
+    let reader = Reader::open(sheet)?;
+    let read = read_lines(problem, reader);
     if read.is_err() {
         *problem = SheetProblem::empty();
     }
