@@ -1,9 +1,9 @@
 -- One literal more in a list. Assumes nothing.
-use Rattle.std.specs.Prelude.{◌≡◌, ℕ, Bool, true, false, ◌⊎◌, Result, MatchResult}
+use Rattle.std.specs.Prelude.{◌≡◌, ℕ, Bool, true, false, ◌⊎◌, List, get_or, Result, MatchResult, slice_index_or, slice_set}
 use Rattle.sets.specs.Literals.{Literal}
 use Rattle.sets.specs.Sets.{lit_in, with_literal}
 use Rattle.sets.specs.declared.facts.LiteralSet.{LiteralSet}
-use Rattle.sheet.specs.Job.{JobStep, literal, mentions}
+use Rattle.sheet.specs.Job.{JobStep, no_step, literal, mentions}
 use Rattle.sheet.specs.declared.fault.Place.{Place}
 use Rattle.sheet.specs.declared.fault.SheetFault.{SheetFault}
 use Rattle.sheet.specs.declared.fault.SheetFault.TheVariants as sheet_is
@@ -27,3 +27,10 @@ with_needs n s = record { name = s.name; needs = n; makes = s.makes }
 
 abbrev pub with_makes : LiteralSet → JobStep → JobStep
 with_makes n s = record { name = s.name; needs = s.needs; makes = n }
+
+-- the literal joins the needs, or the makes, of the step at place i, and all else stays
+abbrev pub NeedJoins : List JobStep → ℕ → ℕ → Bool → Place → Result (Unit {0}) SheetFault → List JobStep → Type 0
+NeedJoins js i f negative w r ks = (n : LiteralSet) × (ks ≡ slice_set js i (with_needs n (slice_index_or js i no_step))) × Joins (get_or js i no_step).needs f negative w r n
+
+abbrev pub MakeJoins : List JobStep → ℕ → ℕ → Bool → Place → Result (Unit {0}) SheetFault → List JobStep → Type 0
+MakeJoins js i f negative w r ks = (n : LiteralSet) × (ks ≡ slice_set js i (with_makes n (slice_index_or js i no_step))) × Joins (get_or js i no_step).makes f negative w r n

@@ -1,5 +1,5 @@
 -- A sheet problem keeps the limits of every problem.
-use Rattle.std.specs.Prelude.{◌≡◌, ℕ, zero, suc, ◌<◌, ◌≤◌, false, cond, List, [], ◌∷◌, map, length, get_or, take, ◌==◌, slice_index_or}
+use Rattle.std.specs.Prelude.{◌≡◌, ℕ, zero, suc, ◌<◌, ◌≤◌, false, cond, List, [], ◌∷◌, map, length, get_or, take, ◌==◌, ◌≢◌, slice_index_or}
 use Rattle.std.proofs.Common.{sym, ap, subst, ◌∙◌, arith}
 use Rattle.std.proofs.lemmas.List.{length-map, get_or-take, get_or-map, get_or_past}
 use Rattle.std.proofs.lemmas.Bool.{both_ways}
@@ -25,6 +25,9 @@ few_or n h = grind (arith, nat_tests)
 
 below_or : (k n : ℕ) → k < n → k < cond {A = ℕ} (n == 0) 1 n
 below_or k n h = grind (arith, nat_tests)
+
+pub named_or : (n m : ℕ) → m ≡ n → (n ≢ 0) → n ≡ cond {A = ℕ} (m == 0) 1 m
+named_or n m e h = grind (arith, nat_tests)
 
 -- what holds of each step in a table, and of a closed one, holds of those in use and beyond
 each_in_use : (P : Step → Type 0) → P closed_step → (n : ℕ) (js : List JobStep) (o : ℕ) → ((k : ℕ) → P (open_step (get_or js k no_step))) → P (get_or (map open_step (take n js)) o closed_step)

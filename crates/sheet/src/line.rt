@@ -13,12 +13,12 @@ use crate::name::plain::PlainName;
 pub enum Line<'a> {
     Version(u16),
     Length(u16),
-    Fact(PlainName<'a>),
-    True(PlainName<'a>),
-    Wanted(SignedName<'a>),
-    Step(PlainName<'a>),
-    Need(SignedName<'a>),
-    Make(SignedName<'a>),
+    Fact(&'a [u8]),
+    True(&'a [u8]),
+    Wanted { negative: bool, name: &'a [u8] },
+    Step(&'a [u8]),
+    Need { negative: bool, name: &'a [u8] },
+    Make { negative: bool, name: &'a [u8] },
 }
 
 // A name with an optional minus before it, which means false.
@@ -59,12 +59,30 @@ fn parse_field<'a>(kind: LineKind, field: &'a [u8]) -> Option<Line<'a>>
     match kind {
         LineKind::Version => Some(Line::Version(number(field)?)),
         LineKind::Length => Some(Line::Length(number(field)?)),
-        LineKind::Fact => Some(Line::Fact(PlainName::new(field)?)),
-        LineKind::True => Some(Line::True(PlainName::new(field)?)),
-        LineKind::Wanted => Some(Line::Wanted(signed_name(field)?)),
-        LineKind::Step => Some(Line::Step(PlainName::new(field)?)),
-        LineKind::Need => Some(Line::Need(signed_name(field)?)),
-        LineKind::Make => Some(Line::Make(signed_name(field)?)),
+        LineKind::Fact => Some(Line::Fact(PlainName::new(field)?.bytes)),
+        LineKind::True => Some(Line::True(PlainName::new(field)?.bytes)),
+        LineKind::Wanted => {
+            let SignedName { negative, name } = signed_name(field)?;
+            Some(Line::Wanted {
+                negative,
+                name: name.bytes,
+            })
+        }
+        LineKind::Step => Some(Line::Step(PlainName::new(field)?.bytes)),
+        LineKind::Need => {
+            let SignedName { negative, name } = signed_name(field)?;
+            Some(Line::Need {
+                negative,
+                name: name.bytes,
+            })
+        }
+        LineKind::Make => {
+            let SignedName { negative, name } = signed_name(field)?;
+            Some(Line::Make {
+                negative,
+                name: name.bytes,
+            })
+        }
     }
 }
 
@@ -85,10 +103,10 @@ impl<'a> Line<'a> {
             Line::Length(_) => LineKind::Length,
             Line::Fact(_) => LineKind::Fact,
             Line::True(_) => LineKind::True,
-            Line::Wanted(_) => LineKind::Wanted,
+            Line::Wanted { .. } => LineKind::Wanted,
             Line::Step(_) => LineKind::Step,
-            Line::Need(_) => LineKind::Need,
-            Line::Make(_) => LineKind::Make,
+            Line::Need { .. } => LineKind::Need,
+            Line::Make { .. } => LineKind::Make,
         }
     }
 }

@@ -1,21 +1,23 @@
 // Reads a sheet line by line, and leaves what it states or the empty problem.
-ghost use Rattle.std.specs.Prelude.{◌≡◌, ◌+◌, ◌<◌, true, Some, MatchResult};
+ghost use Rattle.std.specs.Prelude.{◌≡◌, ◌+◌, ◌<◌, true, Some, None, MatchResult};
 ghost use Rattle.sheet.specs.Exact.{OneReading, Faulted, Exact};
 ghost use Rattle.sheet.specs.Job.{Adds, Flawed, field, no_job};
 ghost use Rattle.sheet.specs.Kind.{allowed, in_step, after_step};
 ghost use Rattle.sheet.specs.Sheet.{Next, Wrong, Reads, Refused};
-ghost use Rattle.sheet.specs.Statement.{Statement, meant, kind_stated};
+ghost use Rattle.sheet.specs.Statement.{Statement, Proper, meant, kind_stated};
 ghost use Rattle.sheet.specs.Stated.{stated as job};
 
 use crate::cut::Reader;
 use crate::fault::{Place, SheetFault};
 use crate::kind::{check_end, check_order};
-use crate::line::Line;
+use crate::line::{Line, SignedName};
+use crate::name::plain::PlainName;
 use crate::problem::SheetProblem;
 
 // Adds what a line states, or says why it may not stand.
 fn add_line(problem: &mut SheetProblem, stated: Line, line: u32) -> Result<(), SheetFault>
-    requires { in_step (kind_stated (meant stated)) ≡ true → 0 < problem.old.count }
+    requires proper { Proper (meant stated) }
+    requires begun { in_step (kind_stated (meant stated)) ≡ true → 0 < problem.old.count }
     ensures { MatchResult result (λ _. Adds (job problem.old) (meant stated.entry) (job problem.new))
         (λ e. Flawed (job problem.old) (meant stated.entry) (record { line = line; byte = field (meant stated.entry) }) e) }
 {
@@ -34,12 +36,21 @@ fn add_line(problem: &mut SheetProblem, stated: Line, line: u32) -> Result<(), S
             problem.times = n as usize;
             Ok(())
         }
-        Line::Fact(name) => problem.add_fact(name, place),
-        Line::True(name) => problem.add_true(name, place),
-        Line::Wanted(signed) => problem.add_wanted(signed, place),
-        Line::Step(name) => problem.add_step(name, place),
-        Line::Need(signed) => problem.add_need(signed, place),
-        Line::Make(signed) => problem.add_make(signed, place),
+        Line::Fact(bytes) => problem.add_fact(PlainName { bytes }, place),
+        Line::True(bytes) => problem.add_true(PlainName { bytes }, place),
+        Line::Wanted { negative, name } => {
+            let name = PlainName { bytes: name };
+            problem.add_wanted(SignedName { negative, name }, place)
+        }
+        Line::Step(bytes) => problem.add_step(PlainName { bytes }, place),
+        Line::Need { negative, name } => {
+            let name = PlainName { bytes: name };
+            problem.add_need(SignedName { negative, name }, place)
+        }
+        Line::Make { negative, name } => {
+            let name = PlainName { bytes: name };
+            problem.add_make(SignedName { negative, name }, place)
+        }
     }
 }
 
@@ -65,11 +76,12 @@ impl<'a> Reader<'a> {
 }
 
 // Every line of the sheet, from the first on.
-fn read_lines(problem: &mut SheetProblem, sheet: &[u8]) -> Result<(), SheetFault>
-    requires { job problem.old ≡ no_job }
-    ensures { MatchResult result (λ _. Reads sheet.now (job problem.new)) (λ e. Faulted sheet.now e) }
+fn read_lines(problem: &mut SheetProblem, front: Reader) -> Result<(), SheetFault>
+    requires front { (front.line ≡ 1) × (front.previous ≡ None) }
+    requires fresh { job problem.old ≡ no_job }
+    ensures { MatchResult result (λ _. Reads front.entry.rest.now (job problem.new)) (λ e. Faulted front.entry.rest.now e) }
 {
-    let mut reader = Reader::open(sheet)?;
+    let mut reader = front;
     // at least once: the empty sheet has a first line too, which is its fault
     loop {
         reader.one_line(problem)?;
@@ -85,7 +97,8 @@ fn fill(sheet: &[u8], problem: &mut SheetProblem) -> Result<(), SheetFault>
     ensures { MatchResult result (λ _. Reads sheet.now (job problem.new)) (λ e. Faulted sheet.now e × (job problem.new ≡ no_job)) }
 {
     *problem = SheetProblem::empty();
-    let read = read_lines(problem, sheet);
+    let reader = Reader::open(sheet)?;
+    let read = read_lines(problem, reader);
     if read.is_err() {
         *problem = SheetProblem::empty();
     }

@@ -6,7 +6,7 @@ use Rattle.sheet.proofs.reader.read_lines.Given as goal
 
 abbrev pub invariant-loop : goal.invariant-loop
 invariant-loop l =
-    Sofar l.sheet l.reader.rest.now l.reader.previous l.reader.line (stated l.problem) ×
+    Sofar l.front.rest.now l.reader.rest.now l.reader.previous l.reader.line (stated l.problem) ×
     ((0 < length l.reader.rest.now) ⊎ (l.reader.line ≡ 1)) ×
     (after_step l.reader.previous ≡ true → 0 < l.problem.count)
 
