@@ -21,7 +21,20 @@ impl Writer<'_> {
         self.at = self.at.saturating_add(1);
     }
 
+    // Copied whole where it has room, and only counted where no byte of it has.
     pub fn bytes(&mut self, text: &[u8])
+        ensures { Writes text.now self.old self.new }
+    {
+        let end = self.at.saturating_add(text.len());
+        if end <= self.out.len() {
+            self.out[self.at..end].copy_from_slice(text);
+        } else if self.at < self.out.len() {
+            return self.byte_by_byte(text);
+        }
+        self.at = end;
+    }
+
+    fn byte_by_byte(&mut self, text: &[u8])
         ensures { Writes text.now self.old self.new }
     {
         for b in text {
