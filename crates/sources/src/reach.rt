@@ -52,11 +52,11 @@ fn reach_set<S: ProblemSource>(source: &S) -> LiteralSet
     }
 }
 
-// Whether a need of the step of a number is outside the set; beyond the count no step is asked for.
-fn is_out<S: ProblemSource>(source: &S, number: usize, reach: LiteralSet) -> bool
-    ensures { number < steps (S.meaning source.now) → Outside (row (S.meaning source.now) number) reach result }
+// Whether a need of the step of a number is outside the set; from the count on no step is asked for.
+fn is_out<S: ProblemSource>(source: &S, count: usize, number: usize, reach: LiteralSet) -> bool
+    ensures { number < count → Outside (row (S.meaning source.now) number) reach result }
 {
-    number < source.steps() && lacks(source.step(number), reach)
+    number < count && lacks(source.step(number), reach)
 }
 
 // True for each step with a need outside the reach set.
@@ -64,5 +64,6 @@ pub(crate) fn closed_steps<S: ProblemSource>(source: &S) -> [bool; 256]
     ensures { Exact (S.meaning source.now) result }
 {
     let reach = reach_set(source);
-    array::from_fn(|o| is_out(source, o, reach))
+    let count = source.steps();
+    array::from_fn(|o| is_out(source, count, o, reach))
 }

@@ -11,4 +11,4 @@ returns g c =
     let few : steps p ≤ 256 = (g.met.S.ProblemSource.limits c.args.source.now).few_steps in
     exact_from p c.reach_set-reach.result c.from_fn.result c.reach_set-reach.ensures
     -- a call needs nothing of c, in which a search would read each of the 256 elements
-    (λ o h. made_at _ (λ i y. i < steps p → Outside (step p i) c.reach_set-reach.result y) _ (λ i y c k. search rules) c.from_fn.result 256 c.from_fn.ensures.items o false (omega (arith, few)) h)
+    (λ o h. made_at _ (λ i y. i < c.steps-count.result → Outside (step p i) c.reach_set-reach.result y) _ (λ i y c k. search rules) c.from_fn.result 256 c.from_fn.ensures.items o false (omega (arith, few)) (omega (arith, h, c.steps-count.ensures)))
